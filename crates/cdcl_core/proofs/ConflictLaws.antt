@@ -1,105 +1,42 @@
 -- The row of a contradiction explains a conflict, and what a conflict comes to.
-use Rattle.std.proofs.Common.{◌≡◌, refl, sym, ap, ◌∙◌, subst, ℕ, ◌+◌, true, List, [], ◌∷◌, length, Contains, Option, None, arith, inl, inr, Some, ℤ}
-use Rattle.std.specs.List.{AllByRecursion}
+use Rattle.std.proofs.Common.{◌≡◌, sym, ap, ◌∙◌, subst, ℕ, ◌+◌, ◌≤◌, true, List, [], ◌∷◌, length, Contains, Option, None, arith, inl, inr, Some}
+use Rattle.std.specs.List.{All, AllByRecursion}
 use Rattle.std.proofs.lemmas.Option.{same_Some}
 use Rattle.cx_base.specs.Literals.{Literal}
-use Rattle.cx_base.specs.Problem.{Problem, Unmet}
-use Rattle.cx_semantics.specs.Chain.{has_literal, negations}
-use Rattle.cx_base.specs.Integers.{integers_of, literals}
+use Rattle.cx_base.specs.Problem.{Problem}
+use Rattle.cx_semantics.specs.Chain.{has_literal}
 use Rattle.cx_base.specs.Assumptions.{is_ending, IsFailed}
-use Rattle.cx_base.specs.declared.steps.LogStep.{LogStep}
-use Rattle.cx_base.specs.declared.steps.LogStep.TheVariants.{Parity, ClauseOfParity}
 use Rattle.cx_base.specs.declared.steps.LogEvent.{LogEvent}
-use Rattle.cx_base.specs.declared.steps.LogEvent.TheVariants.{Step}
-use Rattle.cx_semantics.specs.Marked.{Marked}
 use Rattle.clause_arena.specs.Clauses.{IsLive, literals_at}
 use Rattle.parity_engine.specs.State.{State, Named, named_at, OfNamed}
 use Rattle.parity_engine.specs.Equations.{sum_of_numbers}
 use Rattle.parity_engine.specs.Written.{IsWritten, AreRising}
 use Rattle.watch_lists.specs.Truths.{IsFalsified}
 use Rattle.xor_reason.specs.Laws.{StandsOn}
-use Rattle.xor_reason.specs.ReasonClause.{AreAssigned, IsReasonFor, IsReasonClause}
+use Rattle.xor_reason.specs.ReasonClause.{AreAssigned, AreFalseBut, IsReasonFor, IsReasonClause}
+use Rattle.cx_trail.specs.Sequence.{IsFalseIn, IsTrueIn}
 use Rattle.xor_reason.specs.declared.reason.ReasonOf.{ReasonOf}
 use Rattle.xor_reason.proofs.EventLaws.{broken_is_missed}
 use Rattle.search_steps.specs.Tied.{IsTied}
 use Rattle.search_steps.proofs.EngineLaws.{known_is_true}
 use Rattle.search_steps.proofs.Stored.{of_has}
-use Rattle.search_steps.specs.Search.{Search, IsSearch, told}
-use Rattle.search_steps.specs.LogSteps.{IsEnded, all_told}
-use Rattle.search_steps.specs.Holding.{AreTold}
-use Rattle.search_steps.proofs.Ends.{row_clause_ends, row_clause_fails, row_clause_is_marked, ended_is_unmet}
 use Rattle.cdcl_search.specs.declared.state.SearchState.{SearchState}
 use Rattle.cdcl_search.specs.Explaining.{Explains}
 use Rattle.cdcl_search.specs.declared.propagation.Found.{Found}
 use Rattle.cdcl_search.specs.declared.propagation.Found.TheVariants as found
 use Rattle.cdcl_search.specs.Finds.{PropagationFinds}
-use Rattle.cdcl_search.specs.Tells.{as_events, with_events, IsTellable, IsId}
-use Rattle.cdcl_search.specs.Rows.{sum_and_clause_events}
-use Rattle.cdcl_search.specs.Ties.{SearchStands, first_row_id, Ties}
-use Rattle.cdcl_search.proofs.RowSteps.{all_told_are, sum_told, sum_is, clause_added, clause_is}
+use Rattle.cdcl_search.specs.Tells.{with_events, IsId}
+use Rattle.cdcl_search.specs.Ties.{SearchStands, first_row_id}
 use Rattle.cdcl_core.specs.declared.conflicts.Conclusion.TheVariants.{Clause}
 use Rattle.cdcl_core.specs.declared.conflicts.Conflict.{Conflict}
 use Rattle.cdcl_core.specs.Concluding.{Concludes, EndsLog, IsEndedWith, IsRowAgainst, IsClauseAgainst}
-use Rattle.cdcl_core.specs.Results.{EndsFor}
+use Rattle.cdcl_core.specs.Shortening.{AreShort, EndsByRow, HasNoUnit, short_row_events}
+use Rattle.cdcl_core.specs.declared.conflicts.Ending.{Ending}
+use Rattle.cdcl_core.specs.declared.shortening.UnitClause.{UnitClause}
+use Rattle.cdcl_core.proofs.ShortLaws.{known_by, short_by, IsUnitIn, IsReadyToEnd, IsLeftOfRow, ready_to_end, is_left, told_units, left_inside, left_is_unmet, left_fails, left_ends, negations_all, false_negations}
 use Rattle.conflict_learn.specs.Learning.{IsAntecedent}
 use Rattle.cdcl_search.specs.Sources.{IsSourced}
 use Rattle.cdcl_search.proofs.RowReasons as reasons
-
--- ---- a row whose clause is an ending clause: its sum and its clause end the log
-module _ (formula : Problem) (c : SearchState) (e : State) (rows : List (List Literal)) (s : Search) (ok : IsSearch formula e.parities s) (t : Ties formula c e rows s)
-    (r : ReasonOf) (x : Explains e.parities c.trail r) (back_parity : literals (integers_of r.parity) ≡ r.parity) (back_clause : literals (integers_of r.clause) ≡ r.clause)
-    (ends : is_ending formula.constraints r.clause ≡ true) where
-  abbrev parities : List (List Literal)
-  parities = e.parities
-
-  abbrev k : ℕ
-  k = length formula.constraints + 1
-
-  abbrev n : ℕ
-  n = first_row_id c.next + length rows
-
-  abbrev rs : List ℤ
-  rs = integers_of r.parity
-
-  abbrev zs : List ℤ
-  zs = integers_of r.clause
-
-  abbrev two : List LogEvent
-  two = Step (Parity k rs r.sources) ∷ Step (ClauseOfParity n zs k) ∷ []
-
-  abbrev after_sum : Search
-  after_sum = told s (Step (Parity k rs r.sources))
-
-  after_sum_is : IsSearch formula parities after_sum
-  after_sum_is = sum_told formula c e rows s ok t r x back_parity back_clause
-
-  ends_told : is_ending formula.constraints (literals zs) ≡ true
-  ends_told = ap (is_ending formula.constraints) back_clause ∙ ends
-
-  fails : IsFailed formula (negations r.clause)
-  fails = subst (λ ls. IsFailed formula (negations ls)) back_clause (row_clause_fails formula parities after_sum after_sum_is n zs k (literals rs) (clause_added formula c e rows s ok t r x back_parity back_clause)
-      (sum_is formula c e rows s ok t r x back_parity back_clause) (clause_is formula c e rows s ok t r x back_parity back_clause) ends_told)
-
-  ended : IsEnded formula (all_told s two).events
-  ended = row_clause_ends formula parities after_sum after_sum_is n zs k (literals rs) (clause_added formula c e rows s ok t r x back_parity back_clause)
-      (sum_is formula c e rows s ok t r x back_parity back_clause) (clause_is formula c e rows s ok t r x back_parity back_clause) ends_told
-
-  marked : Marked formula (all_told s two).events s.conflicts
-  marked = row_clause_is_marked formula parities after_sum after_sum_is n zs k (literals rs) t.log.served.served
-      (sum_is formula c e rows s ok t r x back_parity back_clause) (clause_is formula c e rows s ok t r x back_parity back_clause)
-
-  two_are_unmet : Unmet formula
-  two_are_unmet = ended_is_unmet formula (all_told s two).events ended
-
-  two_end_for : EndsFor formula (all_told s two).events (negations r.clause)
-  two_end_for = record {
-    ended = ended;
-    last = λ apart. (after_sum.events, ClauseOfParity n zs k, refl, ap negations (sym back_clause));
-  }
-
-  two_end : (told_ : Option (List LogEvent)) → AreTold told_ s.events → IsEndedWith formula c.conflicts (negations r.clause) (with_events two told_)
-  two_end None a = tt
-  two_end (Some es) a = subst (λ xs. IsEndedWith formula c.conflicts (negations r.clause) (Some xs)) (sym (all_told_are two s (Some es) a)) (two_end_for, subst (Marked formula (all_told s two).events) t.counts.marked marked)
 
 -- what a row is that is against: it is named, its variables are assigned, and it is a reason of its kind
 pub record IsAgainst (c : SearchState) (e : State) (row : ℕ) (kept : Option Literal) : Type 0 where
@@ -171,20 +108,53 @@ module _ (formula : Problem) (c : SearchState) (e : State) (told : Option (List 
         assigned = a.assigned a.what a.is;
       }
 
+      pub row_is_known : All (λ (l : Literal). l.variable ≤ c.trail.variables) reason.clause
+      row_is_known = known_by formula c e [] st.0 st.1 st.3 reason row_explains
+
+      pub row_is_short : length reason.clause ≤ 268435455
+      row_is_short = short_by formula c e [] st.0 st.1 st.3 reason row_explains
+
       -- the steps of a row whose clause is an ending clause
-      pub ends_log : literals (integers_of reason.parity) ≡ reason.parity → literals (integers_of reason.clause) ≡ reason.clause → is_ending formula.constraints reason.clause ≡ true → (steps : List LogStep)
-          → as_events steps ≡ sum_and_clause_events (length formula.constraints + 1) (integers_of reason.parity) reason.sources (first_row_id c.next) (integers_of reason.clause)
-          → AllByRecursion IsTellable steps → EndsLog formula c.conflicts told (negations reason.clause) steps
-      ends_log back_parity back_clause ends steps are texts = record {
-        texts = texts;
-        unmet = two_are_unmet formula c e [] st.0 st.1 st.3 reason row_explains back_parity back_clause ends;
-        fails = fails formula c e [] st.0 st.1 st.3 reason row_explains back_parity back_clause ends;
-        apart = st.1.log.apart;
-        log = subst (λ xs. IsEndedWith formula c.conflicts (negations reason.clause) (with_events xs told)) (sym are)
-            (subst (λ n. IsEndedWith formula c.conflicts (negations reason.clause) (with_events (sum_and_clause_events (length formula.constraints + 1) (integers_of reason.parity) reason.sources n (integers_of reason.clause)) told))
-            (let z : first_row_id c.next + 0 ≡ first_row_id c.next = omega arith in z)
-            (two_end formula c e [] st.0 st.1 st.3 reason row_explains back_parity back_clause ends told st.2));
-      }
+      module _ (ends : is_ending formula.constraints reason.clause ≡ true) (n : Ending) (by : EndsByRow c (length formula.constraints) reason n) where
+        abbrev left : List Literal
+        left = by.short.left
+
+        abbrev units : List UnitClause
+        units = by.short.units.items
+
+        abbrev k : ℕ
+        k = length formula.constraints + 1
+
+        units_in : AllByRecursion (IsUnitIn formula.variables st.0.moment.tables.clauses) units
+        units_in = told_units formula c e [] st.0 st.3 units by.shortened.told
+
+        ready : IsReadyToEnd formula theirs c.conflicts k (first_row_id c.next) st.0
+        ready = subst (λ m. IsReadyToEnd formula theirs c.conflicts k m st.0) (let z : first_row_id c.next + 0 ≡ first_row_id c.next = omega arith in z) (ready_to_end formula c e [] st.0 st.1 st.3)
+
+        of_row : IsLeftOfRow formula theirs reason.sources units left
+        of_row = is_left formula c e [] st.0 st.1 st.3 reason row_explains left units by.shortened.parts ends
+
+        pub ends_log : EndsLog formula c.conflicts told n.failed n.steps.items
+        ends_log = record {
+          texts = by.ends.steps.texts;
+          unmet = left_is_unmet formula theirs c.conflicts k (first_row_id c.next) st.0 ready reason.sources units left of_row units_in;
+          fails = subst (IsFailed formula) (sym by.ends.failed) (left_fails formula theirs c.conflicts k (first_row_id c.next) st.0 ready reason.sources units left of_row units_in);
+          apart = st.1.log.apart;
+          log = subst (λ xs. IsEndedWith formula c.conflicts n.failed (with_events xs told)) (sym by.ends.steps.are)
+              (subst (λ failed. IsEndedWith formula c.conflicts failed (with_events (short_row_events k reason.sources units left (first_row_id c.next)) told)) (sym by.ends.failed)
+              (left_ends formula theirs c.conflicts k (first_row_id c.next) st.0 ready reason.sources units left of_row units_in told st.2));
+        }
+
+        pub is_short : AreShort c kept n.failed
+        is_short = record {
+          no_unit = subst (AllByRecursion (HasNoUnit c)) (sym by.ends.failed) (negations_all (HasNoUnit c) left by.shortened.no_unit);
+          are_true = λ none. subst (AllByRecursion (IsTrueIn c.trail.entries)) (sym by.ends.failed)
+              (false_negations c.trail reason.clause (subst (λ k. AreFalseBut c.trail k reason.clause) none is_clause.are_false) left (left_inside reason.clause left by.short.units.items by.shortened.parts));
+        }
+
+    -- each literal of the clause of a row that is not met is false
+    pub row_is_false : IsRowAgainst c e row None → (reason : ReasonOf) → OfNamed e row (λ n. IsReasonClause c.trail None n.form reason.parity reason.clause) → (m : Literal) → has_literal reason.clause m ≡ true → IsFalseIn c.trail.entries m
+    row_is_false clash reason clause = (clause clash.0 clash.1).are_false
 
     -- the clause of the row, where it was told
     is_told_row : (rows : List (List Literal)) (lits clause : List Literal) → lits ≡ clause → rows ≡ clause ∷ [] → IsSourced c rows lits

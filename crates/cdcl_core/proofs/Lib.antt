@@ -8,6 +8,10 @@ pub mod FailLaws
 pub mod RefutedLaws
 pub mod AgainstLaws
 pub mod ClashLaws
+pub mod ShortForms
+pub mod ShortLaws
+pub mod ShortSteps
+pub mod KnownLaws
 pub mod ConflictLaws
 pub mod Answering
 pub mod EndingLaws

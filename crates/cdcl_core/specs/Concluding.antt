@@ -31,6 +31,7 @@ use Rattle.cdcl_search.specs.Explaining.{IsReasonOf}
 use Rattle.cdcl_search.specs.Finds.{IsClash}
 use Rattle.conflict_learn.specs.Learning.{IsAntecedent}
 use Rattle.cdcl_core.specs.Results.{Refutes, EndsFor}
+use Rattle.cdcl_core.specs.Shortening.{AreShort}
 use Rattle.cdcl_core.specs.declared.conflicts.Conclusion.{Conclusion}
 use Rattle.cdcl_core.specs.declared.conflicts.Conflict.{Conflict}
 use Rattle.cdcl_core.specs.declared.conflicts.Conclusion.TheVariants.{Clause, Ending}
@@ -46,7 +47,7 @@ pub record IsAtConflict {P L : Type 0} (p : engine.Ghosts P) (m : sink.Ghosts L 
   pub conflict : IsConflictClause c rows clause
   pub above : 0 < c.trail.level
 
--- the log is ended with these failed assumptions, and marked so often
+-- the log is ended with these failed assumptions, and marked this often
 abbrev pub IsEndedWith : Problem → ℕ → List Literal → Option (List LogEvent) → Type 0
 IsEndedWith formula marks failed None = Unit {0}
 IsEndedWith formula marks failed (Some events) = EndsFor formula events failed × Marked formula events marks
@@ -63,7 +64,7 @@ pub record EndsLog (formula : Problem) (marks : ℕ) (told : Option (List LogEve
 abbrev pub IsTold : Conflict → Type 0
 IsTold k = IsId k.id × (length k.rows.items ≤ 1)
 
--- Up to an answer the end is told: no values meet the formula, and the log shows it, marked no more often than before. The answer are the assumptions that fail. The log goes on.
+-- Up to an answer the end is told: no values meet the formula, and the log shows it, marked no more often than before. The answer is the assumptions that fail. The log goes on.
 pub record TellsEnd {L : Type 0} (m : sink.Ghosts L LogEvent) (old : SearchLog L) (marks : ℕ) (new : SearchLog L) (result : Result (List Literal) CoreFault) : Type 0 where
   pub refutes : IfOk result (λ failed. Refutes new.formula.now (marks + 1) (told_in m new) failed)
   pub log : GoesOn m old (fault_in result) new
@@ -83,10 +84,10 @@ abbrev pub IsClauseAgainst : SearchState → List (List Literal) → Option Lite
 IsClauseAgainst c rows None clause = IsConflictClause c rows clause
 IsClauseAgainst c rows (Some l) clause = IsSourced c rows clause × IsAntecedent c.trail l clause
 
--- such a clause, or steps that end the log
+-- such a clause, or steps that end the log, where what fails has no unit clause of level 0
 abbrev pub Concludes : Problem → SearchState → State → Option (List LogEvent) → Option Literal → Conclusion → Type 0
 Concludes formula c e told kept (Clause k) = SearchStands formula c e k.rows.items told × IsClauseAgainst c k.rows.items kept k.lits × IsTold k
-Concludes formula c e told kept (Ending n) = SearchStands formula c e [] told × EndsLog formula c.conflicts told n.failed n.steps.items
+Concludes formula c e told kept (Ending n) = SearchStands formula c e [] told × EndsLog formula c.conflicts told n.failed n.steps.items × AreShort c kept n.failed
 
 -- it is a clause, and not steps that end the log
 abbrev pub IsByClause : Conclusion → Type 0
@@ -104,7 +105,7 @@ pub record ConcludesOn {P L : Type 0} (p : engine.Ghosts P) (m : sink.Ghosts L L
   pub concludes : IfOk result (λ k. Concludes new.formula.now c (p.state e) (told_in m new) kept k)
   pub log : GoesOn m old (fault_in result) new
 
--- the clauses of the search show the empty clause, which may have this id; so many conflicts are counted
+-- the clauses of the search show the empty clause, which may have this id; this many conflicts are counted
 pub record IsContradicted (formula : Problem) (id marks : ℕ) (s : Search) : Type 0 where
   pub parities : List (List Literal)
   pub search : IsSearch formula parities s

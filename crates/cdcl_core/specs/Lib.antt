@@ -14,3 +14,4 @@ pub mod Reducing
 pub mod Compacting
 pub mod Rounds
 pub mod GoingBack
+pub mod Shortening

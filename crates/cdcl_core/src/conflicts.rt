@@ -1,24 +1,23 @@
 //! The clauses of conflicts, and of literals that contradict assumed ones.
-ghost use Rattle.std.specs.Prelude.{◌≡◌, ◌≢◌, ℕ, ◌+◌, ◌<◌, ◌≤◌, [], length, None, Some, IfOk};
-ghost use Rattle.cx_base.specs.Integers.{integers_of};
-ghost use Rattle.cx_semantics.specs.Chain.{negations};
+ghost use Rattle.std.specs.Prelude.{◌≡◌, ◌≢◌, ℕ, ◌<◌, ◌≤◌, [], length, None, Some, IfOk};
 ghost use Rattle.cx_trail.specs.Sequence.{entry_at};
 ghost use Rattle.parity_engine.specs.Written.{AreRising};
 ghost use Rattle.search_policy.specs.Assuming.{Contradicts, KeepsAssumptions};
-ghost use Rattle.cdcl_search.specs.Finds.{PropagationFinds, IsClash};
+ghost use Rattle.cdcl_search.specs.Finds.{PropagationFinds};
 ghost use Rattle.cdcl_search.specs.Logs.{HasNotFailed, Stands};
-ghost use Rattle.cdcl_search.specs.Rows.{AreFew, AreRowSteps, sum_and_clause_events};
-ghost use Rattle.cdcl_search.specs.Tells.{IsId};
-ghost use Rattle.cdcl_search.specs.Ties.{first_row_id};
+ghost use Rattle.cdcl_search.specs.Rows.{AreFew};
+ghost use Rattle.cdcl_search.specs.Sources.{HasIds};
+ghost use Rattle.std.specs.List.{All};
 ghost use Rattle.cdcl_search.specs.declared.propagation.Found.TheVariants.{Quiet};
 ghost use Rattle.conflict_learn.specs.Learning.{HasReason};
 ghost use Rattle.cdcl_core.specs.Concluding.{ConcludesOn, IsRowAgainst, IsByClause, IsOfClause};
+ghost use Rattle.cdcl_core.specs.Shortening.{EndsByRow};
 ghost use Rattle.cdcl_core.specs.declared.conflicts.Conflict.{Conflict};
 ghost use Rattle.cdcl_core.specs.declared.conflicts.Conclusion.TheVariants as conclusion;
 
-use crate::failing::negated;
+use crate::shortening::{last_steps, shorten};
 use cdcl_search::logs::SearchLog;
-use cdcl_search::rows::{first_id_of_rows, next_ids, sum_and_clause, tell_reason};
+use cdcl_search::rows::{first_id_of_rows, tell_reason};
 use cdcl_search::source::{Hinted, stored, unit};
 use cdcl_search::{Found, SearchState};
 use conflict_learn::CoreFault;
@@ -54,31 +53,27 @@ pub(crate) enum Conclusion {
     Ending(Ending),
 }
 
-/// The steps of a row whose clause is an ending clause: its sum and its clause.
+/// The steps of a row whose clause is an ending clause, without what is known at level 0.
 fn end_of_row(
     alloc: Global,
     formula: &Formula,
-    next: u64,
+    state: &SearchState,
     reason: ReasonOf,
 ) -> Result<Ending, AllocError>
-    requires next { IsId next }
-    requires few { AreFew formula.now.constraints next [] }
+    requires ids { HasIds state.now }
+    requires few { AreFew formula.now.constraints state.now.next [] }
+    requires units { length state.now.units.items ≤ length state.now.trail.entries }
+    requires known { All (λ l. l.variable ≤ state.now.trail.variables) reason.clause }
+    requires short { length reason.clause ≤ 268435455 }
     requires sources { (parities : ℕ) × (parities ≤ length formula.now.constraints) × AreRising 1 parities reason.sources }
-    ensures steps { IfOk result (λ e. AreRowSteps (sum_and_clause_events (length formula.now.constraints + 1) (integers_of reason.parity) reason.sources (first_row_id next) (integers_of reason.clause)) reason.parity reason.clause e.steps.items) }
-    ensures failed { IfOk result (λ e. e.failed ≡ negations reason.clause) }
+    ensures { IfOk result (EndsByRow state.now (length formula.now.constraints) reason) }
 {
-    let ids = next_ids(formula, next, &[]);
-    let ReasonOf {
-        parity,
-        sources,
-        clause,
-    } = reason;
-    let failed = negated(alloc, clause.as_slice())?;
-    let steps = sum_and_clause(alloc, ids, &parity, sources, &clause)?;
-    Ok(Ending { steps, failed })
+    let short = shorten(alloc, state, reason.clause.as_slice())?;
+    let id = first_id_of_rows(state.next);
+    last_steps(alloc, formula, id, reason.sources, &short, Vec::new(alloc))
 }
 
-/// What a row comes to that is not met, or one that implied a literal that contradicts an assumed one.
+/// What comes of a row that is not met, or of one that implied a literal that contradicts an assumed one.
 fn of_row<P: ParityEngine, L: Sink<Item = LogEvent>>(
     log: &mut SearchLog<L>,
     state: &SearchState,
@@ -93,7 +88,7 @@ fn of_row<P: ParityEngine, L: Sink<Item = LogEvent>>(
 {
     let reason = reason_clause(log.alloc, engine, row, kept, &state.trail)?;
     if log.formula.is_ending(reason.clause.as_slice()) {
-        let ending = end_of_row(log.alloc, log.formula, state.next, reason)?;
+        let ending = end_of_row(log.alloc, log.formula, state, reason)?;
         return Ok(Conclusion::Ending(ending));
     }
     let mut rows = Vec::new(log.alloc);
@@ -107,7 +102,7 @@ fn of_row<P: ParityEngine, L: Sink<Item = LogEvent>>(
     }
 }
 
-/// What a clause comes to for which no row is told.
+/// What comes of a clause for which no row is told.
 fn of_stored(alloc: Global, hinted: Hinted) -> Conclusion
     ensures { (k : Conflict) × (result ≡ conclusion.Clause k) × (k.lits ≡ hinted.lits) × (k.id ≡ hinted.id) × (k.rows.items ≡ []) }
 {
@@ -139,7 +134,7 @@ pub(crate) fn conflict_clause<P: ParityEngine, L: Sink<Item = LogEvent>>(
     }
 }
 
-/// What a reason comes to, by which a literal is on the trail that contradicts an assumed one. The clause of a row is told first.
+/// What comes of the reason of a literal that contradicts an assumed one. The clause of a row is told first.
 fn reason_against<P: ParityEngine, L: Sink<Item = LogEvent>>(
     log: &mut SearchLog<L>,
     state: &SearchState,
@@ -160,7 +155,7 @@ fn reason_against<P: ParityEngine, L: Sink<Item = LogEvent>>(
     }
 }
 
-/// What the literal at a place comes to that contradicts an assumed one: the clause that implied it. That of a row is told first.
+/// What comes of the literal at a place, which contradicts an assumed one: the clause that implied it. That of a row is told first.
 pub(crate) fn clause_against<P: ParityEngine, L: Sink<Item = LogEvent>>(
     log: &mut SearchLog<L>,
     state: &SearchState,

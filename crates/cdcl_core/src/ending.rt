@@ -1,5 +1,5 @@
 //! The end of a log.
-ghost use Rattle.std.specs.Prelude.{◌≤◌};
+ghost use Rattle.std.specs.Prelude.{◌≡◌, ◌≤◌, IfOk};
 ghost use Rattle.std.specs.List.{All};
 ghost use Rattle.cdcl_search.specs.Logs.{HasNotFailed, told_in};
 ghost use Rattle.cdcl_search.specs.Tells.{IsId};
@@ -14,7 +14,7 @@ use conflict_learn::CoreFault;
 use cx_base::{Lit, LitList, LogEvent};
 use step_text::Sink;
 
-/// Tells the steps that end the log. The answer are the assumed literals that fail.
+/// Tells the steps that end the log. The answer is the assumed literals that fail.
 pub(crate) fn tell_ending<L: Sink<Item = LogEvent>>(
     log: &mut SearchLog<L>,
     state: &SearchState,
@@ -22,7 +22,8 @@ pub(crate) fn tell_ending<L: Sink<Item = LogEvent>>(
 ) -> Result<LitList, CoreFault>
     requires ends { EndsLog log.old.formula.now state.now.conflicts (told_in L.Sink log.old) ending.failed ending.steps.items }
     requires going { HasNotFailed L.Sink log.old }
-    ensures { TellsEnd L.Sink log.old state.now.conflicts log.new result }
+    ensures ends { TellsEnd L.Sink log.old state.now.conflicts log.new result }
+    ensures failed { IfOk result (λ failed. failed ≡ ending.failed) }
 {
     let Ending { steps, failed } = ending;
     tell_steps(log, steps)?;

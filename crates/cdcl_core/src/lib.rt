@@ -17,6 +17,7 @@ mod reducing;
 mod refuting;
 mod restarting;
 mod schedule;
+mod shortening;
 mod solving;
 
 pub use conflict_learn::CoreFault;

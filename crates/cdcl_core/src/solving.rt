@@ -18,6 +18,7 @@ ghost use Rattle.cdcl_core.specs.Filling.{IsFilledUpTo};
 ghost use Rattle.cdcl_core.specs.Given.{AreEngines, HasGiven};
 ghost use Rattle.cdcl_core.specs.Narrowing.{Searched};
 ghost use Rattle.cdcl_core.specs.Results.{IsRightOutcome, IsFresh, IsSettledBy};
+ghost use Rattle.cdcl_core.specs.Shortening.{HasAllUnits};
 ghost use Rattle.cdcl_core.specs.Rounds.{IsSearching, LeavesRound, IsSettledIn};
 ghost use Rattle.cdcl_core.specs.declared.solving.Outcome.TheVariants as outcome;
 
@@ -97,7 +98,7 @@ fn end<P: ParityEngine, L: Sink<Item = LogEvent>>(
     requires clear { AreClear marks.old }
     requires going { HasNotFailed L.Sink log.old }
     ensures ends { TellsEnd L.Sink log.old state.now.conflicts log.new result }
-    ensures none { IsByClause conclusion → kept ≡ None → state.now.trail.level ≡ 0 → IfOk result (λ failed. failed ≡ []) }
+    ensures none { IsByClause conclusion ⊎ HasAllUnits state.now → kept ≡ None → state.now.trail.level ≡ 0 → IfOk result (λ failed. failed ≡ []) }
     ensures clear { OnOk result (AreClear marks.new) }
 {
     match conclusion {
@@ -130,6 +131,7 @@ fn conclude_conflict<P: ParityEngine, L: Sink<Item = LogEvent>>(
     requires reaches { SearchReaches log.old.formula.now.constraints state.old (P.state engine.old) assumptions.old (reached.Found found) }
     requires conflict { found ≢ Quiet }
     requires settled { SettledWithRecovered log.old.formula.now → state.old.trail.level ≡ 0 }
+    ensures none { state.old.trail.level ≡ 0 → IfOk result (λ o. o ≡ Some (outcome.Unsat [])) }
     ensures leaves { LeavesRound P.ParityEngine L.Sink budget log.old state.old log.new state.new engine.new assumptions.new marks.new result }
     ensures at_start { state.old.trail.level ≡ 0 → IsSettledIn log.new.formula.now state.old.conflicts (told_in L.Sink log.new) result }
 {

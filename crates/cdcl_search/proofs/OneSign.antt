@@ -9,11 +9,12 @@ use Rattle.cx_base.specs.Parity.{NormalForm, HasOneOfEach}
 use Rattle.cx_semantics.specs.Chain.{has_literal}
 use Rattle.cx_base.proofs.LiteralLaws.{same_literal-itself}
 use Rattle.cx_semantics.proofs.Members.{has_split}
+use Rattle.cx_semantics.proofs.RecoveredLaws.{Distinct}
 use Rattle.cx_semantics.proofs.Widths.{variable_in, length-variables, variables}
 use Rattle.conflict_learn.proofs.ChainOfResolutions.{by_cases}
 use Rattle.search_steps.proofs.Sets.{not_both}
 
--- a set of a list's members has at most as many, and fewer where one stands twice
+-- a set of a list's members has at most as many, and fewer where one occurs twice
 len_more : (x : ℕ) (xs : List ℕ) → set.len (set.from_list {R = nat_cmp} (x ∷ xs)) ≡ cond (list_any (λ y. nat_eq y x) xs) (set.len (set.from_list {R = nat_cmp} xs)) (set.len (set.from_list {R = nat_cmp} xs) + 1)
 len_more x xs = set.len-insert nat_cmp_total (set.from_list xs) x ∙ ap (λ b. cond b (set.len (set.from_list {R = nat_cmp} xs)) (set.len (set.from_list {R = nat_cmp} xs) + 1)) (set.contains-from_list_nat xs x)
 
@@ -51,3 +52,11 @@ pub one_sign : (form : NormalForm) (lits : List Literal) → HasOneOfEach form.v
 one_sign form lits each l m a b same apart =
     let one : l ≡ m = not_twice lits (length-variables lits ∙ each.once ∙ ap set.len (sym each.same)) l m a b same in
     true≢false (sym (same_literal-itself l) ∙ ap (same_literal l) one ∙ apart)
+
+all_distinct : (xs : List ℕ) → length xs ≡ set.len (set.from_list {R = nat_cmp} xs) → Distinct xs
+all_distinct [] h = tt
+all_distinct (x ∷ xs) h = let p = heads_apart x xs h in (p.0, all_distinct xs p.1)
+
+-- and each variable once
+pub distinct_of_each : (form : NormalForm) (lits : List Literal) → HasOneOfEach form.variables lits → Distinct (variables lits)
+distinct_of_each form lits each = all_distinct (variables lits) (length-variables lits ∙ each.once ∙ ap set.len (sym each.same))

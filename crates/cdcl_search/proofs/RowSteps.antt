@@ -1,4 +1,4 @@
--- The three steps of a row that was told keep what stands behind the code.
+-- The three steps of a row that was told keep the search that fits the code.
 use Rattle.std.proofs.Common.{◌≡◌, ◌≢◌, refl, sym, ap, ◌∙◌, subst, ℕ, zero, suc, ◌+◌, ◌-◌, ◌<◌, ◌≤◌, ℤ, true, false, List, [], ◌∷◌, ◌++◌, length, get_or, map, Option, Some, None, is_some, Contains, arith, inl, inr, length-append}
 use Rattle.std.specs.List.{AllByRecursion, cons_option}
 use Rattle.std.specs.FinMap as map_
@@ -60,13 +60,13 @@ assigned_within t n v sound vars (i, less, is) = let low = sound.low i less in l
 
 -- ---- parities under their numbers
 module _ (table : Table) (parities : List (List Literal)) (are : AreNumbered table parities) where
-  named_are : (least : ℕ) (ids : List ℕ) → 1 ≤ least → AreRising least (length parities) ids → named table ids ≡ numbered parities ids
+  pub named_are : (least : ℕ) (ids : List ℕ) → 1 ≤ least → AreRising least (length parities) ids → named table ids ≡ numbered parities ids
   named_are least [] low r = refl
   named_are least (k ∷ ids) low r =
       let first = r.0 in
       ap (λ o. cons_option o (named table ids)) (are k (omega (arith, low, first)) r.1) ∙ ap (λ xs. parity_number parities k ∷ xs) (named_are (k + 1) ids (omega arith) r.2)
 
-  all_live : (least : ℕ) (ids : List ℕ) → 1 ≤ least → AreRising least (length parities) ids → AreLive table ids
+  pub all_live : (least : ℕ) (ids : List ℕ) → 1 ≤ least → AreRising least (length parities) ids → AreLive table ids
   all_live least [] low r = tt
   all_live least (k ∷ ids) low r = let first = r.0 in (ap is_some (are k (omega (arith, low, first)) r.1), all_live (k + 1) ids (omega arith) r.2)
 
@@ -104,6 +104,17 @@ pub is_left : (formula : Problem) (parities : List (List Literal)) (s : Search) 
 is_left formula parities s None ok served a = tt
 is_left formula parities s (Some es) ok served a = subst (λ xs. IsLeft formula (Some xs)) (sym a) (inl (is_log_open formula parities s ok served))
 
+-- ---- the variables of a row are the formula's
+module _ (formula : Problem) (c : SearchState) (e : State) (rows : List (List Literal)) (s : Search) (t : Ties formula c e rows s) (r : ReasonOf) (x : Explains e.parities c.trail r) where
+  form_within : (v : ℕ) → set.contains x.form.variables v ≡ true → (1 ≤ v) × (v ≤ formula.variables)
+  form_within v h = assigned_within c.trail formula.variables v t.trail.follows.sound t.trail.variables (x.assigned v (low_form x.form r.parity x.written v h) h)
+
+  pub parity_within : AreWithin formula.variables r.parity
+  parity_within = within_by formula.variables r.parity (λ l h. form_within l.variable (has_written x.form r.parity x.written l h))
+
+  pub clause_within : AreWithin formula.variables r.clause
+  clause_within = within_by formula.variables r.clause (λ l h. form_within l.variable (in_form x.form r.clause x.one_of_each l h))
+
 -- ---- a row is told
 module _ (formula : Problem) (c : SearchState) (e : State) (rows : List (List Literal)) (s : Search) (ok : IsSearch formula e.parities s) (t : Ties formula c e rows s)
     (r : ReasonOf) (x : Explains e.parities c.trail r) (back_parity : literals (integers_of r.parity) ≡ r.parity) (back_clause : literals (integers_of r.clause) ≡ r.clause) where
@@ -128,14 +139,8 @@ module _ (formula : Problem) (c : SearchState) (e : State) (rows : List (List Li
   high : length theirs < k
   high = let few = t.engine.few in omega (arith, few)
 
-  form_within : (v : ℕ) → set.contains x.form.variables v ≡ true → (1 ≤ v) × (v ≤ formula.variables)
-  form_within v h = assigned_within c.trail formula.variables v t.trail.follows.sound t.trail.variables (x.assigned v (low_form x.form r.parity x.written v h) h)
-
-  parity_within : AreWithin formula.variables r.parity
-  parity_within = within_by formula.variables r.parity (λ l h. form_within l.variable (has_written x.form r.parity x.written l h))
-
-  clause_within : AreWithin formula.variables r.clause
-  clause_within = within_by formula.variables r.clause (λ l h. form_within l.variable (in_form x.form r.clause x.one_of_each l h))
+  abbrev within_its : AreWithin formula.variables r.parity × AreWithin formula.variables r.clause
+  within_its = (parity_within formula c e rows s t r x, clause_within formula c e rows s t r x)
 
   names_same : named s.moment.tables.parities r.sources ≡ numbered theirs r.sources
   names_same = named_are s.moment.tables.parities theirs t.log.numbered 1 r.sources (omega arith) x.numbers
@@ -144,7 +149,7 @@ module _ (formula : Problem) (c : SearchState) (e : State) (rows : List (List Li
   normal = ap normal_form back_parity ∙ x.written.normal
 
   row_added : IsAddition formula s.moment.tables.parities k rs
-  row_added = record { within = variables_are_within formula.variables r.parity parity_within; free = t.log.sums k high }
+  row_added = record { within = variables_are_within formula.variables r.parity within_its.0; free = t.log.sums k high }
 
   row_is : IsRowOf theirs s.moment.tables r.sources (literals rs)
   row_is = record {
@@ -155,13 +160,13 @@ module _ (formula : Problem) (c : SearchState) (e : State) (rows : List (List Li
 
   pub clause_added : IsAddition formula s.moment.tables.clauses n zs
   clause_added = record {
-    within = variables_are_within formula.variables r.clause clause_within;
+    within = variables_are_within formula.variables r.clause within_its.1;
     free = row_next_is_free formula (first_row_id c.next) c.next (first_row_id c.next + length rows) s t.log.ranged (omega arith);
   }
 
   pub clause_is : IsClauseOfRow formula.variables (literals rs) (literals zs)
   clause_is = record {
-    within = subst (AreWithin formula.variables) (sym back_clause) clause_within;
+    within = subst (AreWithin formula.variables) (sym back_clause) within_its.1;
     one_of_each = subst (HasOneOfEach (normal_form (literals rs)).variables) (sym back_clause) (subst (λ f. HasOneOfEach f.variables r.clause) (sym normal) x.one_of_each);
     implied = λ values h. ap (clause_met values) back_clause ∙ x.follows values (ap (parity_met values) (sym back_parity) ∙ h);
   }

@@ -53,7 +53,7 @@ pub fn next_ids(formula: &Formula, next: u64, rows: &[LitList]) -> RowIds
 }
 
 /// The steps of a row: its sum and its clause.
-pub fn sum_and_clause(
+fn sum_and_clause(
     alloc: Global,
     ids: RowIds,
     parity: &LitList,

@@ -1,6 +1,6 @@
 //! The steps that the search tells. A text can have each of them.
 //!
-//! A call of `as_slice` whose answer is let go says to the proof what holds of each integer of a list.
+//! A call of `as_slice` whose answer is let go tells the proof what holds of each integer of a list.
 ghost use Rattle.std.specs.Prelude.{[]};
 ghost use Rattle.std.specs.List.{AllByRecursion};
 ghost use Rattle.cx_base.specs.declared.steps.LogStep.TheVariants as step;
@@ -48,7 +48,7 @@ pub fn chained(id: u64, lits: IntList, hints: IntList) -> LogStep
 }
 
 /// A sum of parities.
-pub(crate) fn sum(id: u64, lits: IntList, sources: IdList) -> LogStep
+pub fn sum(id: u64, lits: IntList, sources: IdList) -> LogStep
     requires id { IsId id }
     requires sources { AllByRecursion IsId sources }
     ensures { IsStep (step.Parity id lits sources) result }
@@ -58,7 +58,7 @@ pub(crate) fn sum(id: u64, lits: IntList, sources: IdList) -> LogStep
 }
 
 /// A clause that a parity implies.
-pub(crate) fn clause_of_sum(id: u64, lits: IntList, source: u64) -> LogStep
+pub fn clause_of_sum(id: u64, lits: IntList, source: u64) -> LogStep
     requires id { IsId id }
     requires source { IsId source }
     ensures { IsStep (step.ClauseOfParity id lits source) result }

@@ -68,7 +68,7 @@ fn put_other_within(
     put_other_beside(alloc, others, case, bounds, &plain)
 }
 
-/// The same in pieces of any length.
+/// As `put_other_within`, in pieces of any length.
 fn put_other_answer(alloc: Global, others: &mut String, case: &Case) -> Result<(), AllocError> {
     for piece in PIECES {
         put_other_within(alloc, others, case, in_pieces(AMPLE, piece))?;
@@ -83,7 +83,7 @@ fn put_other_answers(alloc: Global, others: &mut String, cases: &[Case]) -> Resu
     Ok(())
 }
 
-const ANSWERS: [Case; 13] = [
+const ANSWERS: [Case; 14] = [
     ("p cnf 0 0\n", "7", 10, "s SATISFIABLE\nv 0\n"),
     (CHAIN, "7", 10, "s SATISFIABLE\nv 1 -2 0\n"),
     (
@@ -117,10 +117,16 @@ const ANSWERS: [Case; 13] = [
     (SQUARE, "1", 20, "s UNSATISFIABLE\n"),
     (FOUR, "2", 20, "s UNSATISFIABLE\n"),
     (FOUR, "1", 0, "c conflicts 1\ns UNKNOWN\n"),
+    (
+        "p cnf 2000000 4\n1 2 0\n1 -2 0\n-1 3 0\n-1 -3 0\n",
+        "1",
+        0,
+        "c conflicts 1\ns UNKNOWN\n",
+    ),
 ];
 
 /// Formulas with assumption constraints: the literals that fail come by rising variables, and the two of a variable that is assumed with both signs.
-const ASSUMED: [Case; 9] = [
+const ASSUMED: [Case; 10] = [
     (
         "p cnf 2 2\nx1 2 0\na 1 2 0\n",
         "7",
@@ -175,6 +181,12 @@ const ASSUMED: [Case; 9] = [
         20,
         "s UNSATISFIABLE\nc failed -1 0\n",
     ),
+    (
+        "p cnf 2000000 1\n-1 2 0\na 3 1 -2 0\n",
+        "7",
+        20,
+        "s UNSATISFIABLE\nc failed 1 -2 0\n",
+    ),
 ];
 
 #[test]
@@ -186,7 +198,7 @@ fn assumed_literals_that_fail_are_told(rt: HostRuntime) -> Result<(), Fail> {
 }
 
 /// Formulas that propagation refutes at level 0, with assumptions that have no part in it, also where one is false there.
-const REFUTED_ALONE: [Case; 7] = [
+const REFUTED_ALONE: [Case; 8] = [
     (
         "p cnf 2 2\n0\na 1 -2 0\n",
         "1",
@@ -229,6 +241,13 @@ const REFUTED_ALONE: [Case; 7] = [
         20,
         "s UNSATISFIABLE\nc failed 0\n",
     ),
+    // each literal of the parity is assumed, and known
+    (
+        "p cnf 2 4\nx1 2 0\n1 0\n2 0\na 1 2 0\n",
+        "1",
+        20,
+        "s UNSATISFIABLE\nc failed 0\n",
+    ),
 ];
 
 #[test]
@@ -242,7 +261,7 @@ fn no_assumed_literal_fails_where_the_formula_is_refuted_without_a_decision(
 }
 
 /// Formulas of which some assumed literals fail, and others that are decided before these have no part in it.
-const PARTLY_FAILED: [Case; 7] = [
+const PARTLY_FAILED: [Case; 10] = [
     // 2 excludes 4
     (
         "p cnf 4 2\n-2 -4 0\na 1 2 3 4 0\n",
@@ -285,7 +304,28 @@ const PARTLY_FAILED: [Case; 7] = [
         20,
         "s UNSATISFIABLE\nc failed 1 2 0\n",
     ),
-    // one literal alone, behind others
+    // of a parity, nor are literals that are known and assumed
+    (
+        "p cnf 2 3\nx1 2 0\n1 0\na 1 2 0\n",
+        "1",
+        20,
+        "s UNSATISFIABLE\nc failed 2 0\n",
+    ),
+    // where 2 follows from 1
+    (
+        "p cnf 3 4\nx1 2 3 0\n1 0\n-1 2 0\na 1 2 -3 0\n",
+        "1",
+        20,
+        "s UNSATISFIABLE\nc failed -3 0\n",
+    ),
+    // and of a parity that clauses give
+    (
+        "p cnf 5 8\n1 2 3 0\n1 -2 -3 0\n-1 2 -3 0\n-1 -2 3 0\nx3 4 5 0\n1 0\n2 0\na 1 2 4 -5 0\n",
+        "1",
+        20,
+        "s UNSATISFIABLE\nc failed 4 -5 0\n",
+    ),
+    // one literal alone, after others
     (
         "p cnf 5 4\n-3 4 0\n-3 5 0\n-4 -5 0\na 1 2 3 0\n",
         "1",
@@ -307,7 +347,7 @@ fn sign(var: u32) -> &'static str {
     if var % 2 == 0 { "-" } else { "" }
 }
 
-/// A formula of a clause and of one assumption constraint, which has each of so many variables.
+/// A formula of a clause and of one assumption constraint, which has each of this many variables.
 fn assuming(alloc: Global, vars: u32, clause: &str) -> Result<String, AllocError> {
     let mut text = format!(in alloc; "p cnf {vars} 2\n{clause}\na")?;
     for var in 1..=vars {
@@ -402,8 +442,8 @@ fn recovered_parities_are_told_behind_the_originals(rt: HostRuntime) -> Result<(
     Ok(())
 }
 
-/// Runs `solve` of the triangle with this room for its log, which is too little: just that front of
-/// the log is to stand on its port.
+/// Runs `solve` of the triangle with this room for its log, which is too little: just that prefix of
+/// the log is to be on its port.
 fn put_other_front(
     alloc: Global,
     others: &mut String,
@@ -428,7 +468,7 @@ fn put_other_front(
     put_other_in_pieces(alloc, others, task, bounds, end)
 }
 
-/// The same with a file for the log and without one, of two fronts of a log that has more than six bytes.
+/// As `put_other_front`, with a file for the log and without one, of two prefixes of a log that has more than six bytes.
 fn put_other_fronts(alloc: Global, others: &mut String, log: &[u8]) -> Result<(), AllocError> {
     let most = log.len().saturating_sub(1);
     if most <= 5 {

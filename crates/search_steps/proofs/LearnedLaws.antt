@@ -29,7 +29,7 @@ pub record AreNamed (table : Table) (clauses : List (List Literal)) : Type 0 whe
   pub live : AreLive table ids
   pub same : AllSame clauses (named table ids)
 
-all_named : (table : Table) (clauses : List (List Literal)) → AllByRecursion (IsLiveSet table) clauses → AreNamed table clauses
+pub all_named : (table : Table) (clauses : List (List Literal)) → AllByRecursion (IsLiveSet table) clauses → AreNamed table clauses
 all_named table [] h = record { ids = []; live = tt; same = tt }
 all_named table (c ∷ cs) ((clause, (n, e), s), h) =
     let r = all_named table cs h in

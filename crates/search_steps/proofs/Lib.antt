@@ -9,6 +9,8 @@ pub mod EndLaws
 pub mod UnitLaws
 pub mod RowReasons
 pub mod UnitSteps
+pub mod UnitParities
+pub mod LateUnits
 pub mod EngineLaws
 pub mod Rounds
 pub mod StartLaws

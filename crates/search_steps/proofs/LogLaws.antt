@@ -8,7 +8,7 @@ use Rattle.cx_base.specs.Problem.{Problem, clauses_of, clause_met, parity_met}
 use Rattle.cx_base.specs.declared.constraint.Constraint.{Constraint}
 use Rattle.cx_base.proofs.Elements.{in_head, in_tail}
 use Rattle.cx_base.specs.declared.steps.LogStep.{LogStep}
-use Rattle.cx_base.specs.declared.steps.LogStep.TheVariants.{ClauseWithHints, Parity, ClauseOfParity, Delete, DeleteParity}
+use Rattle.cx_base.specs.declared.steps.LogStep.TheVariants.{ClauseWithHints, Parity, ClauseOfParity, ParityOfClauses, Delete, DeleteParity}
 use Rattle.cx_base.specs.declared.steps.LogEvent.{LogEvent}
 use Rattle.cx_base.specs.declared.steps.LogEvent.TheVariants.{Step, Conflict}
 use Rattle.cx_semantics.specs.Chain.{has_literal, is_inside, negations, same_literals}
@@ -19,7 +19,7 @@ use Rattle.cx_semantics.specs.Judging.{IsRight, Runs}
 use Rattle.cx_semantics.specs.LogRules.{log_calculus, after_log_step, derives_ending_clause, HasChain, AreLive}
 use Rattle.cx_base.specs.Events.{step_of}
 use Rattle.cx_semantics.specs.Marked.{Moment, first_moment, after_event, StepFits, MarkFits, KeepsFormula, mark_of, BeginsWithOriginals, original_events, IsLearned, IsKnown, is_among, without}
-use Rattle.cx_semantics.specs.ProofRules.{all_met}
+use Rattle.cx_semantics.specs.ProofRules.{all_met, IsSum}
 use Rattle.cx_semantics.specs.Settled.{IsClauseOf}
 use Rattle.cx_semantics.specs.Tables.{Table, get, is_live, named}
 use Rattle.cx_base.proofs.LiteralLaws.{are_one}
@@ -141,34 +141,52 @@ module _ (formula : Problem) (parities : List (List Literal)) (s : Search) (ok :
   not_live : (table : Table) (n : ℕ) → get table n ≡ None → is_live table n ≡ false
   not_live table n e = ap is_some e
 
-  -- a unit clause of level 0
+  -- the unit clause of a literal of level 0 that propagation reaches
+  pub reached_unit_keeps : (n : ℕ) (z : ℤ) (hints : List ℤ) → IsAddition formula s.moment.tables.clauses n (z ∷ []) → derives_ending_clause formula (ClauseWithHints n (z ∷ []) hints) ≡ false → s.moment.awaits ≡ false
+      → HasChain s.moment.tables.clauses (Rattle.cx_base.specs.Integers.literal z ∷ []) → IsReached s.moment.tables.clauses (Rattle.cx_base.specs.Integers.literal z) → has_literal (held 0 s.trail) (Rattle.cx_base.specs.Integers.literal z) ≡ true
+      → IsSearch formula parities (told s (Step (ClauseWithHints n (z ∷ []) hints)))
+  reached_unit_keeps n z hints a goes served has_chain reached level_0 =
+      let l = Rattle.cx_base.specs.Integers.literal z in
+      let IsRow = IsOfParities formula.variables parities in
+      tell (ClauseWithHints n (z ∷ []) hints)
+      (a.within, (not_live s.moment.tables.clauses n a.free, (has_chain, tt)))
+      goes
+      (subst (λ b. MatchBool b (IsLearned s.moment (l ∷ [])) (derives_ending_clause formula (ClauseWithHints n (z ∷ []) hints) ≡ false → IsKnown s.moment (l ∷ []))) (sym served)
+      (λ _. inl (refl, reached_is_known s.moment.tables.clauses l reached)))
+      (put_serves formula parities s.trail s.quiet_levels s.moment.tables n (l ∷ []) a.free
+      (λ k h. true_rests (held k s.trail) (l ∷ [])
+      (part_no_clash (held k s.trail) (all_held s.trail) (held_inside k s.trail) (trail_no_clash s.moment.tables.clauses IsRow s.trail ok.serves.stands))
+      (record { l = l; has_it = has_at_head l []; is_held = has_by_inside (held 0 s.trail) (held k s.trail) l (held_rises 0 k s.trail (omega arith)) level_0 }))
+      ok.serves)
+
+  -- and of one that a live clause forces
   pub unit_keeps : (n : ℕ) (z : ℤ) (hints : List ℤ) (older : List Entry) (clause : List Literal) → IsAddition formula s.moment.tables.clauses n (z ∷ []) → derives_ending_clause formula (ClauseWithHints n (z ∷ []) hints) ≡ false → s.moment.awaits ≡ false
       → IsTrail s.moment.tables.clauses (IsOfParities formula.variables parities) older
       → IsUnitOf s (Rattle.cx_base.specs.Integers.literal z) older clause → IsSearch formula parities (told s (Step (ClauseWithHints n (z ∷ []) hints)))
   unit_keeps n z hints older clause a goes served t u =
       let l = Rattle.cx_base.specs.Integers.literal z in
       let IsRow = IsOfParities formula.variables parities in
-      tell (ClauseWithHints n (z ∷ []) hints)
-      (a.within, (not_live s.moment.tables.clauses n a.free, (forced_has_chain s.moment.tables.clauses IsRow older t u.on_clauses clause u.live l u.forces, tt)))
-      goes
-      (subst (λ b. MatchBool b (IsLearned s.moment (l ∷ [])) (derives_ending_clause formula (ClauseWithHints n (z ∷ []) hints) ≡ false → IsKnown s.moment (l ∷ []))) (sym served)
-      (λ _. inl (refl, reached_is_known s.moment.tables.clauses l (forced_is_reached s.moment.tables.clauses IsRow older t u.on_clauses clause u.live l u.forces))))
-      (put_serves formula parities s.trail s.quiet_levels s.moment.tables n (l ∷ []) a.free
-      (λ k h. true_rests (held k s.trail) (l ∷ [])
-      (part_no_clash (held k s.trail) (all_held s.trail) (held_inside k s.trail) (trail_no_clash s.moment.tables.clauses IsRow s.trail ok.serves.stands))
-      (record { l = l; has_it = has_at_head l []; is_held = has_by_inside (held 0 s.trail) (held k s.trail) l (held_rises 0 k s.trail (omega arith)) u.level_0 }))
-      ok.serves)
+      reached_unit_keeps n z hints a goes served (forced_has_chain s.moment.tables.clauses IsRow older t u.on_clauses clause u.live l u.forces)
+      (forced_is_reached s.moment.tables.clauses IsRow older t u.on_clauses clause u.live l u.forces) u.level_0
 
-  -- the sum of parities of the engine
-  pub sum_keeps : (n : ℕ) (zs : List ℤ) (ids : List ℕ) → IsAddition formula s.moment.tables.parities n zs → IsRowOf parities s.moment.tables ids (literals zs) → IsSearch formula parities (told s (Step (Parity n zs ids)))
-  sum_keeps n zs ids a row = tell (Parity n zs ids)
-      (a.within, (not_live s.moment.tables.parities n a.free, (all_are_live ids row.live, (row.sums, tt))))
+  -- the sum of live parities
+  pub live_sum_keeps : (n : ℕ) (zs : List ℤ) (ids : List ℕ) → IsAddition formula s.moment.tables.parities n zs → AreLive s.moment.tables.parities ids → IsSum (literals zs) (named s.moment.tables.parities ids) → IsSearch formula parities (told s (Step (Parity n zs ids)))
+  live_sum_keeps n zs ids a live sums = tell (Parity n zs ids)
+      (a.within, (not_live s.moment.tables.parities n a.free, (all_are_live ids live, (sums, tt))))
       refl tt
       (put_parity_serves formula parities s.trail s.quiet_levels s.moment.tables n (literals zs) a.free ok.serves)
     where
       all_are_live : (ids : List ℕ) → AreLive s.moment.tables.parities ids → list_any (λ k. not (is_live s.moment.tables.parities k)) ids ≡ false
       all_are_live [] h = refl
       all_are_live (k ∷ ks) h = ap (λ b. not b || list_any (λ x. not (is_live s.moment.tables.parities x)) ks) h.0 ∙ all_are_live ks h.1
+
+  -- and that of parities of the engine
+  pub sum_keeps : (n : ℕ) (zs : List ℤ) (ids : List ℕ) → IsAddition formula s.moment.tables.parities n zs → IsRowOf parities s.moment.tables ids (literals zs) → IsSearch formula parities (told s (Step (Parity n zs ids)))
+  sum_keeps n zs ids a row = live_sum_keeps n zs ids a row.live row.sums
+
+  -- a parity that live clauses imply
+  pub clauses_parity_keeps : (n : ℕ) (zs : List ℤ) (ids : List ℕ) → get s.moment.tables.parities n ≡ None → IsRight (log_calculus formula) s.moment.tables (ParityOfClauses n zs ids) → IsSearch formula parities (told s (Step (ParityOfClauses n zs ids)))
+  clauses_parity_keeps n zs ids free is_right = tell (ParityOfClauses n zs ids) is_right refl tt (put_parity_serves formula parities s.trail s.quiet_levels s.moment.tables n (literals zs) free ok.serves)
 
   -- the clause of a row, where the sum of the row is live
   pub row_clause_keeps : (n : ℕ) (zs : List ℤ) (source : ℕ) (row : List Literal) → IsAddition formula s.moment.tables.clauses n zs → get s.moment.tables.parities source ≡ Some row

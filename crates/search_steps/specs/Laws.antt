@@ -1,7 +1,7 @@
 -- The laws of the search's steps.
 use Rattle.std.specs.Prelude.{◌≡◌, ℕ, ◌+◌, ◌*◌, ◌≤◌, ◌<◌, ℤ, Bool, not, List, [], ◌∷◌, ◌++◌, length, Option, Some, None, IsTrue, IsFalse, Contains}
 use Rattle.std.specs.List.{list_all, AllByRecursion}
-use Rattle.cx_base.specs.Literals.{Literal, literal_true}
+use Rattle.cx_base.specs.Literals.{Literal, literal_true, negate}
 use Rattle.cx_base.specs.Assumptions.{assumes, clashes, IsFailed}
 use Rattle.cx_base.specs.Problem.{Problem, Meets, Unmet, clauses_of, parities_of, literals_of, parity_met, AreWithin}
 use Rattle.cx_base.specs.declared.constraint.Constraint.{Constraint}
@@ -14,16 +14,17 @@ use Rattle.cx_semantics.specs.Chain.{has_literal, is_inside, negations, same_lit
 use Rattle.cx_semantics.specs.Fresh.{IsLive}
 use Rattle.cx_base.specs.Integers.{literal, literals, integers_of}
 use Rattle.cx_semantics.specs.Judging.{IsRight, IsOpen}
-use Rattle.cx_semantics.specs.LogRules.{log_calculus, derived_clause, derives_ending_clause, HasChain, IsOriginalParity}
+use Rattle.cx_semantics.specs.LogRules.{log_calculus, derived_clause, derives_ending_clause, HasChain, AreLive, IsOriginalParity}
+use Rattle.cx_semantics.specs.ProofRules.{IsSum}
 use Rattle.cx_base.specs.Events.{steps_of}
 use Rattle.cx_semantics.specs.Marked.{Marked, after_event, is_among, without}
 use Rattle.cx_semantics.specs.Settled.{Decides}
-use Rattle.cx_semantics.specs.Tables.{Table, Tables, get}
+use Rattle.cx_semantics.specs.Tables.{Table, Tables, get, named}
 use Rattle.cx_trail.specs.declared.entry.Entry.{Entry as TrailEntry}
 use Rattle.cx_trail.specs.declared.entry.Reason.{Reason}
 use Rattle.cx_trail.specs.Sequence.{TrailState, TakesBack, pushed, IsTrueIn, IsOpenIn}
 use Rattle.conflict_learn.specs.Final.{IsFinal}
-use Rattle.conflict_learn.specs.Learning.{IsAntecedent, IsLearned, IsOfLevel}
+use Rattle.conflict_learn.specs.Learning.{Follows, IsAntecedent, IsLearned, IsOfLevel}
 use Rattle.conflict_learn.specs.Levels.{Teaches}
 use Rattle.parity_engine.specs.declared.event.ParityEvent.{ParityEvent}
 use Rattle.parity_engine.specs.declared.state.Held.{Held}
@@ -37,7 +38,7 @@ use Rattle.search_steps.specs.Recovering.{IsParityOf, HasRecovered, SettledWithR
 use Rattle.search_steps.specs.Search.{Search, IsSearch, IsServed, IsTidy, IsLearnedOf, told, decided_on, forced_on, jumped, marked}
 use Rattle.search_steps.specs.Start.{IsBegun, start}
 use Rattle.search_steps.specs.Tied.{IsTied, AreForcedBehind, IsLiveSet, Mirrors, ForcesOn, IsQuietOn, AreOthersFalseOn, IsFalsifiedOn}
-use Rattle.search_steps.specs.Trail.{Entry, by_clause, by_row, rests_on, all_held, back_to, level_of, IsUnassigned, Forces}
+use Rattle.search_steps.specs.Trail.{Entry, by_clause, by_row, rests_on, held, all_held, back_to, level_of, IsUnassigned, Forces}
 
 -- a law of each search that holds
 abbrev pub OfSearch : (Problem → List (List Literal) → Search → Type 0) → Type 0
@@ -99,13 +100,13 @@ PropagationsKeep = OfSearch (λ formula parities s.
     (t : TrailState) → Mirrors s.trail t → s.quiet_levels ≤ t.level → (bound : ℕ) (more : List TrailEntry) → AreForcedBehind s.moment.tables.clauses bound t.level t.entries more
     → IsPropagated formula parities bound s (t.entries ++ more))
 
--- so does a literal that a clause of the parities forces
+-- a literal that a clause of the parities forces keeps the search
 abbrev pub RowStepsKeep : Type 0
 RowStepsKeep = OfTrail (λ formula parities s t l reason.
     (clause : List Literal) → s.quiet_levels ≤ t.level → IsOfParities formula.variables parities clause → ForcesOn t.entries clause l
     → IsSearch formula parities (forced_on s l (by_row clause)) × IsTied (forced_on s l (by_row clause)).trail (pushed t t.level l reason).entries)
 
--- so does a decision, where both engines are quiet
+-- a decision keeps the search, where both engines are quiet
 abbrev pub DecisionsKeep : Type 0
 DecisionsKeep = OfTrail (λ formula parities s t l reason.
     s.quiet_levels ≡ t.level → Quiet formula.variables parities s.moment.tables.clauses (all_held s.trail)
@@ -127,10 +128,16 @@ RowReasonsKeep =
     (formula : Problem) (parities : List (List Literal)) (s : Search) (k : ℕ) (rs : List ℤ) (ids : List ℕ) (n : ℕ) (zs : List ℤ) → IsRowReason formula parities s k rs ids n zs
     → IsSearch formula parities s → IsSearch formula parities (all_told s (row_events k rs ids n zs))
 
--- telling the sum of parities of the engine keeps the search
+-- telling the sum of live parities keeps the search
 abbrev pub SumsKeep : Type 0
 SumsKeep = OfSearch (λ formula parities s.
-    (n : ℕ) (zs : List ℤ) (ids : List ℕ) → IsAddition formula s.moment.tables.parities n zs → IsRowOf parities s.moment.tables ids (literals zs) → IsSearch formula parities (told s (Step (Parity n zs ids))))
+    (n : ℕ) (zs : List ℤ) (ids : List ℕ) → IsAddition formula s.moment.tables.parities n zs → AreLive s.moment.tables.parities ids → IsSum (literals zs) (named s.moment.tables.parities ids) → IsSearch formula parities (told s (Step (Parity n zs ids))))
+
+-- telling the parity of a live unit clause keeps the search
+abbrev pub UnitParitiesKeep : Type 0
+UnitParitiesKeep = OfSearch (λ formula parities s.
+    (n : ℕ) (z : ℤ) (unit : ℕ) (clause : List Literal) → IsAddition formula s.moment.tables.parities n (z ∷ []) → get s.moment.tables.clauses unit ≡ Some clause → IsTrue (same_literals (literal z ∷ []) clause)
+    → IsSearch formula parities (told s (Step (ParityOfClauses n (z ∷ []) (unit ∷ [])))))
 
 -- telling the clause of a row keeps the search, where the row's sum is live
 abbrev pub RowClausesKeep : Type 0
@@ -149,6 +156,13 @@ UnitsKeep = OfSearch (λ formula parities s.
     (n : ℕ) (z : ℤ) (hints : List ℤ) (newer older : List Entry) (e : Entry) → s.trail ≡ newer ++ e ∷ older → e.level ≡ 0 → literal z ≡ e.literal → IsAddition formula s.moment.tables.clauses n (z ∷ [])
     → IsFalse (derives_ending_clause formula (ClauseWithHints n (z ∷ []) hints)) → IsFalse s.moment.awaits → RestOnClauses older → (clause : List Literal) → IsLive s.moment.tables.clauses clause → Forces clause (all_held older) e.literal
     → IsSearch formula parities (unit_told s n z hints newer e older))
+
+-- and that of a literal of level 0 whose negation is in a clause all of whose literals were traced to level 0
+abbrev pub LateUnitsKeep : Type 0
+LateUnitsKeep = OfSearch (λ formula parities s.
+    (n : ℕ) (z : ℤ) (hints : List ℤ) → IsAddition formula s.moment.tables.clauses n (z ∷ []) → IsFalse (derives_ending_clause formula (ClauseWithHints n (z ∷ []) hints)) → IsFalse s.moment.awaits
+    → IsTrue (has_literal (held 0 s.trail) (literal z)) → (trail : TrailState) (clause resolved : List Literal) → Follows trail clause (IsLiveSet s.moment.tables.clauses) resolved [] → IsTrue (has_literal clause (negate (literal z)))
+    → IsSearch formula parities (told s (Step (ClauseWithHints n (z ∷ []) hints))))
 
 -- the mark of a counted conflict keeps the search
 abbrev pub MarksKeep : Type 0
@@ -208,7 +222,7 @@ abbrev pub LearnedHasChain : Type 0
 LearnedHasChain =
     (table : Table) (trail : TrailState) (conflict resolved lits : List Literal) → IsLiveSet table conflict → IsLearned trail conflict (IsLiveSet table) resolved lits → HasChain table lits
 
--- so has what is left of a clause whose literals were traced to decisions
+-- what is left of a clause whose literals were traced to decisions has a right chain
 abbrev pub FinalHasChain : Type 0
 FinalHasChain =
     (table : Table) (trail : TrailState) (below : ℕ) (kept : Option Literal) (clause resolved lits : List Literal) → IsLiveSet table clause → IsFinal trail below kept clause (IsLiveSet table) resolved lits → HasChain table lits
@@ -224,7 +238,7 @@ ClauseConflictsAreNow = OfSearch (λ formula parities s.
     (t : TrailState) → Mirrors s.trail t → 0 < t.level → s.quiet_levels ≡ t.level → (lits : List Literal) → IsLiveSet s.moment.tables.clauses lits
     → (m : Literal) × IsTrue (has_literal lits m) × IsOfLevel t m t.level)
 
--- above level 0 so has a clause that the parities imply
+-- above level 0 a clause that the parities imply has such a literal
 abbrev pub RowConflictsAreNow : Type 0
 RowConflictsAreNow = OfSearch (λ formula parities s.
     (t : TrailState) → Mirrors s.trail t → 0 < t.level → s.quiet_levels ≡ t.level → (clause : List Literal) → IsOfParities formula.variables parities clause
@@ -245,13 +259,13 @@ abbrev pub LastStepsEnd : Type 0
 LastStepsEnd = OfSearch (λ formula parities s.
     (step : LogStep) → IsRight (log_calculus formula) s.moment.tables step → IsTrue (derives_ending_clause formula step) → IsEnded formula (s.events ++ Step step ∷ []) × IsFailed formula (negations (derived_clause step)))
 
--- so does a clause by a right chain, and the marks are as before where no clause is owed
+-- a clause by a right chain ends a log in this way, and the marks are as before where no clause is owed
 abbrev pub ChainedClausesEnd : Type 0
 ChainedClausesEnd = OfSearch (λ formula parities s.
     (n : ℕ) (zs hints : List ℤ) → IsAddition formula s.moment.tables.clauses n zs → HasChain s.moment.tables.clauses (literals zs) → IsTrue (derives_ending_clause formula (ClauseWithHints n zs hints)) → IsFalse s.moment.awaits
     → IsEnded formula (s.events ++ Step (ClauseWithHints n zs hints) ∷ []) × Marked formula (s.events ++ Step (ClauseWithHints n zs hints) ∷ []) s.conflicts)
 
--- so does the clause of a row, where its sum is live
+-- the clause of a row ends a log in this way, where its sum is live
 abbrev pub RowClausesEnd : Type 0
 RowClausesEnd = OfSearch (λ formula parities s.
     (n : ℕ) (zs : List ℤ) (source : ℕ) (row : List Literal) → IsAddition formula s.moment.tables.clauses n zs → get s.moment.tables.parities source ≡ Some row → IsClauseOfRow formula.variables row (literals zs)
@@ -337,7 +351,7 @@ AssignedValuesHold =
 abbrev pub NewLevelsHold : Type 0
 NewLevelsHold = (s : State) (es : List Entry) → HoldsValues es s.values → HoldsValues es (opened s).values
 
--- so does an engine that answers an event
+-- an engine that answers an event holds what it held
 abbrev pub AnswersHold : Type 0
 AnswersHold = (s : State) (es : List Entry) → HoldsValues es s.values → (event : ParityEvent) (new : State) → Reports s event new → HoldsValues es new.values
 
@@ -389,7 +403,7 @@ ToldStepsKeepRanges = OfRanges (λ formula bound next row_next s.
     × ((n : ℕ) (zs : List ℤ) (ids : List ℕ) → IsRanged formula bound next row_next s.trail (after_event s.moment (Step (ParityOfClauses n zs ids))))
     × IsRanged formula bound next row_next (marked s).trail (marked s).moment)
 
--- so does any trail whose reasons are below the bound
+-- any other trail whose reasons are below the bound keeps the ranges
 abbrev pub OtherTrailsKeepRanges : Type 0
 OtherTrailsKeepRanges = OfRanges (λ formula bound next row_next s. (es : List Entry) → ReasonsBelow bound es → IsRanged formula bound next row_next es s.moment)
 

@@ -1,5 +1,5 @@
 //! The laws of the search's steps. Each function's contract is the law, and its body is empty.
-ghost use Rattle.search_steps.specs.Laws.{AnswersHold, AssignedValuesHold, AssumptionsAreNotTold, BegunIsRanged, BegunIsSearch, BoundsRise, ChainedClausesEnd, ClauseConflictsAreNow, ClauseStepsKeep, DecisionsKeep, DeletionsKeep, EndedIsUnmet, FalsifiedHasChain, FinalHasChain, ForcedIsImplied, FreshEnginesHold, FullIsMet, HighIsNoReason, HighIsNotAmong, ImpliedClausesRest, JumpsKeep, JumpsStayTied, KnownIsTrue, LargerClausesRest, LastStepsEnd, LaterEntriesGo, LearnedClausesKeep, LearnedDeletionsKeep, LearnedHasChain, MarksKeep, NewLevelsHold, NextIdsAreFree, NoValueIsOpen, NothingIsBegun, OpenHasNoValue, OriginalClausesAreTold, OriginalParitiesAreTold, OtherTrailsKeepRanges, PropagationsKeep, RecoveredParitiesJoin, RecoveredTakesOne, RoundsAreTidy, RoundsKeep, RoundsKeepRanges, RoundsStayTied, RowClausesEnd, RowClausesKeep, RowConflictsAreNow, RowIdsAreTemporary, RowReasonsKeep, RowReasonsServe, RowStepsKeep, RowsAreOfParities, SearchesAreOpen, SettledWantsNoDecision, SilentIsQuiet, StoredForces, StoredIsFalse, StoredRests, SumDeletionsKeep, SumsAreFreeAgain, SumsAreFreeAtFirst, SumsKeep, TaughtIsLearned, TheirsAreHad, ToldStepsKeepRanges, TrailStepsKeepRanges, TrailsHaveNoClash, UnitsKeep, ValuesTakenBackHold, WatchedIsQuiet};
+ghost use Rattle.search_steps.specs.Laws.{AnswersHold, AssignedValuesHold, AssumptionsAreNotTold, BegunIsRanged, BegunIsSearch, BoundsRise, ChainedClausesEnd, ClauseConflictsAreNow, ClauseStepsKeep, DecisionsKeep, DeletionsKeep, EndedIsUnmet, FalsifiedHasChain, FinalHasChain, ForcedIsImplied, FreshEnginesHold, FullIsMet, HighIsNoReason, HighIsNotAmong, ImpliedClausesRest, JumpsKeep, JumpsStayTied, KnownIsTrue, LargerClausesRest, LastStepsEnd, LateUnitsKeep, LaterEntriesGo, LearnedClausesKeep, LearnedDeletionsKeep, LearnedHasChain, MarksKeep, NewLevelsHold, NextIdsAreFree, NoValueIsOpen, NothingIsBegun, OpenHasNoValue, OriginalClausesAreTold, OriginalParitiesAreTold, OtherTrailsKeepRanges, PropagationsKeep, RecoveredParitiesJoin, RecoveredTakesOne, RoundsAreTidy, RoundsKeep, RoundsKeepRanges, RoundsStayTied, RowClausesEnd, RowClausesKeep, RowConflictsAreNow, RowIdsAreTemporary, RowReasonsKeep, RowReasonsServe, RowStepsKeep, RowsAreOfParities, SearchesAreOpen, SettledWantsNoDecision, SilentIsQuiet, StoredForces, StoredIsFalse, StoredRests, SumDeletionsKeep, SumsAreFreeAgain, SumsAreFreeAtFirst, SumsKeep, TaughtIsLearned, TheirsAreHad, ToldStepsKeepRanges, TrailStepsKeepRanges, TrailsHaveNoClash, UnitParitiesKeep, UnitsKeep, ValuesTakenBackHold, WatchedIsQuiet};
 
 /// At the start nothing is told.
 pub fn nothing_is_begun()
@@ -66,9 +66,14 @@ pub fn row_reasons_keep()
     ensures { RowReasonsKeep }
 {}
 
-/// Telling the sum of parities of the engine keeps the search.
+/// Telling the sum of live parities keeps the search.
 pub fn sums_keep()
     ensures { SumsKeep }
+{}
+
+/// Telling the parity of a live unit clause keeps the search.
+pub fn unit_parities_keep()
+    ensures { UnitParitiesKeep }
 {}
 
 /// Telling the clause of a row keeps the search, where the row's sum is live.
@@ -84,6 +89,11 @@ pub fn sum_deletions_keep()
 /// Telling the unit clause of a literal of level 0 keeps the search, and the literal rests on it from then on.
 pub fn units_keep()
     ensures { UnitsKeep }
+{}
+
+/// Telling the unit clause of a literal of level 0 keeps the search, whose negation is in a clause that was traced to level 0.
+pub fn late_units_keep()
+    ensures { LateUnitsKeep }
 {}
 
 /// The mark of a counted conflict keeps the search.
@@ -121,7 +131,7 @@ pub fn rounds_are_tidy()
     ensures { RoundsAreTidy }
 {}
 
-/// The literal that the learned clause forces is open on the code's trail after the jump, and is put after it.
+/// The literal that the learned clause forces is open on the code's trail after the jump, and is added to it.
 pub fn rounds_stay_tied()
     ensures { RoundsStayTied }
 {}
@@ -136,7 +146,7 @@ pub fn learned_has_chain()
     ensures { LearnedHasChain }
 {}
 
-/// So has what is left of a clause whose literals were traced to decisions.
+/// What is left of a clause whose literals were traced to decisions has a right chain.
 pub fn final_has_chain()
     ensures { FinalHasChain }
 {}
@@ -151,7 +161,7 @@ pub fn clause_conflicts_are_now()
     ensures { ClauseConflictsAreNow }
 {}
 
-/// Above level 0 so has a clause that the parities imply.
+/// Above level 0 a clause that the parities imply has such a literal.
 pub fn row_conflicts_are_now()
     ensures { RowConflictsAreNow }
 {}

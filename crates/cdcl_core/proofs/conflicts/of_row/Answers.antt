@@ -1,11 +1,11 @@
 use Rattle.std.proofs.Common.{arith, sym, ap, ◌∙◌, subst, ◌++◌, ◌∷◌, [], length, is_some}
 use Rattle.cdcl_search.specs.Ties.{SearchStands}
-use Rattle.cdcl_search.proofs.LowIds.{next_is_id, next_is_low, row_ids_are_ids}
+use Rattle.cdcl_search.proofs.LowIds.{has_ids, next_is_id, next_is_low, row_ids_are_ids}
 use Rattle.cx_base.specs.Assumptions.{is_ending}
-use Rattle.cdcl_core.specs.Concluding.{Concludes, EndsLog}
+use Rattle.cdcl_core.specs.Concluding.{Concludes}
 use Rattle.cdcl_core.specs.declared.conflicts.Conclusion.TheVariants.{Clause}
 use Rattle.cdcl_core.specs.declared.conflicts.Conflict.{Conflict}
-use Rattle.cdcl_core.proofs.ConflictLaws.{against, row_explains, row_numbers, row_is_against, row_concludes, ends_log}
+use Rattle.cdcl_core.proofs.ConflictLaws.{against, row_explains, row_numbers, row_is_against, row_concludes, row_is_known, row_is_short, ends_log, is_short}
 use Rattle.cdcl_search.specs.GoingOn.{log_rests, log_stops}
 use Rattle.std.proofs.lemmas.Result.{err_from_is_err_and}
 use Rattle.cdcl_core.proofs.conflicts.of_row.Goals as goal
@@ -19,8 +19,8 @@ reason_clause-requires-clause-assigned g c = (against c.args.log.now.formula.now
 pub reason_clause-requires-clause-kind : goal.reason_clause-requires-clause-kind
 reason_clause-requires-clause-kind g c = (against c.args.log.now.formula.now c.args.state.now (g.P.ParityEngine.state c.args.engine.now) (g.L.Sink.items c.args.log.now.sink.now) c.requires.stands c.args.row c.args.kept c.requires.row).kind
 
-pub end_of_row-requires-clause-next : goal.end_of_row-requires-clause-next
-end_of_row-requires-clause-next g c = next_is_id c.args.log.now.formula.now c.args.state.now (g.P.ParityEngine.state c.args.engine.now) _ [] c.requires.stands.0 c.requires.stands.3
+pub end_of_row-requires-clause-ids : goal.end_of_row-requires-clause-ids
+end_of_row-requires-clause-ids g c = has_ids c.args.log.now.formula.now c.args.state.now (g.P.ParityEngine.state c.args.engine.now) [] (g.L.Sink.items c.args.log.now.sink.now) c.requires.stands
 
 pub end_of_row-requires-clause-few : goal.end_of_row-requires-clause-few
 end_of_row-requires-clause-few g c = record {
@@ -28,11 +28,20 @@ end_of_row-requires-clause-few g c = record {
   room = row_ids_are_ids c.args.log.now.formula.now c.args.state.now (g.P.ParityEngine.state c.args.engine.now) _ [] c.requires.stands.0 c.requires.stands.3 (omega arith);
 }
 
-pub first_id_of_rows-requires : goal.first_id_of_rows-requires
-first_id_of_rows-requires g c = next_is_id c.args.log.now.formula.now c.args.state.now (g.P.ParityEngine.state c.args.engine.now) _ [] c.requires.stands.0 c.requires.stands.3
+pub end_of_row-requires-clause-units : goal.end_of_row-requires-clause-units
+end_of_row-requires-clause-units g c = c.requires.stands.3.units.few
+
+pub end_of_row-requires-clause-known : goal.end_of_row-requires-clause-known
+end_of_row-requires-clause-known g c = row_is_known c.args.log.now.formula.now c.args.state.now (g.P.ParityEngine.state c.args.engine.now) (g.L.Sink.items c.args.log.now.sink.now) c.requires.stands c.args.row c.args.kept c.requires.row c.in_ok-reason.reason c.in_ok-reason.ensures.parity c.in_ok-reason.ensures.numbers c.in_ok-reason.ensures.sum c.in_ok-reason.ensures.clause
+
+pub end_of_row-requires-clause-short : goal.end_of_row-requires-clause-short
+end_of_row-requires-clause-short g c = row_is_short c.args.log.now.formula.now c.args.state.now (g.P.ParityEngine.state c.args.engine.now) (g.L.Sink.items c.args.log.now.sink.now) c.requires.stands c.args.row c.args.kept c.requires.row c.in_ok-reason.reason c.in_ok-reason.ensures.parity c.in_ok-reason.ensures.numbers c.in_ok-reason.ensures.sum c.in_ok-reason.ensures.clause
 
 pub end_of_row-requires-clause-sources : goal.end_of_row-requires-clause-sources
 end_of_row-requires-clause-sources g c = (length (g.P.ParityEngine.state c.args.engine.now).parities, c.requires.stands.3.engine.few, row_numbers c.args.log.now.formula.now c.args.state.now (g.P.ParityEngine.state c.args.engine.now) (g.L.Sink.items c.args.log.now.sink.now) c.requires.stands c.args.row c.args.kept c.requires.row c.in_ok-reason.reason c.in_ok-reason.ensures.parity c.in_ok-reason.ensures.numbers c.in_ok-reason.ensures.sum c.in_ok-reason.ensures.clause)
+
+pub first_id_of_rows-requires : goal.first_id_of_rows-requires
+first_id_of_rows-requires g c = next_is_id c.args.log.now.formula.now c.args.state.now (g.P.ParityEngine.state c.args.engine.now) _ [] c.requires.stands.0 c.requires.stands.3
 
 pub tell_reason-requires-clause-explains : goal.tell_reason-requires-clause-explains
 tell_reason-requires-clause-explains g c = row_explains c.args.log.now.formula.now c.args.state.now (g.P.ParityEngine.state c.args.engine.now) (g.L.Sink.items c.args.log.now.sink.now) c.requires.stands c.args.row c.args.kept c.requires.row c.in_ok-reason.reason c.in_ok-reason.ensures.parity c.in_ok-reason.ensures.numbers c.in_ok-reason.ensures.sum c.in_ok-reason.ensures.clause
@@ -41,16 +50,16 @@ pub tell_reason-requires-clause-goes_on : goal.tell_reason-requires-clause-goes_
 tell_reason-requires-clause-goes_on g c = ap (is_ending c.args.log.now.formula.now.constraints) (sym c.as_slice.ensures) ∙ sym c.is_ending.ensures ∙ c.if-is_ending.false
 
 pub returns-then-is_ending : goal.returns-then-is_ending
-returns-then-is_ending g c = record {
-  concludes = (
-    c.requires.stands,
-    subst (λ failed. EndsLog c.args.log.now.formula.now c.args.state.now.conflicts (g.L.Sink.items c.args.log.now.sink.now) failed c.in_ok-ending.ending.steps.items) (sym c.in_ok-ending.ensures.failed)
-        (ends_log c.args.log.now.formula.now c.args.state.now (g.P.ParityEngine.state c.args.engine.now) (g.L.Sink.items c.args.log.now.sink.now) c.requires.stands c.args.row c.args.kept c.requires.row c.in_ok-reason.reason c.in_ok-reason.ensures.parity c.in_ok-reason.ensures.numbers c.in_ok-reason.ensures.sum c.in_ok-reason.ensures.clause
-        c.in_ok-ending.ensures.steps.parity c.in_ok-ending.ensures.steps.clause (ap (is_ending c.args.log.now.formula.now.constraints) (sym c.as_slice.ensures) ∙ sym c.is_ending.ensures ∙ c.if-is_ending.true)
-        c.in_ok-ending.ending.steps.items c.in_ok-ending.ensures.steps.are.are c.in_ok-ending.ensures.steps.are.texts),
-  );
-  log = log_rests g.L.Sink g.met.L.Sink.keeps_itself c.args.log.now;
-}
+returns-then-is_ending g c =
+    let ends = ap (is_ending c.args.log.now.formula.now.constraints) (sym c.as_slice.ensures) ∙ sym c.is_ending.ensures ∙ c.if-is_ending.true in
+    record {
+      concludes = (
+        c.requires.stands,
+        ends_log c.args.log.now.formula.now c.args.state.now (g.P.ParityEngine.state c.args.engine.now) (g.L.Sink.items c.args.log.now.sink.now) c.requires.stands c.args.row c.args.kept c.requires.row c.in_ok-reason.reason c.in_ok-reason.ensures.parity c.in_ok-reason.ensures.numbers c.in_ok-reason.ensures.sum c.in_ok-reason.ensures.clause ends c.in_ok-ending.ending c.in_ok-ending.ensures,
+        is_short c.args.log.now.formula.now c.args.state.now (g.P.ParityEngine.state c.args.engine.now) (g.L.Sink.items c.args.log.now.sink.now) c.requires.stands c.args.row c.args.kept c.requires.row c.in_ok-reason.reason c.in_ok-reason.ensures.parity c.in_ok-reason.ensures.numbers c.in_ok-reason.ensures.sum c.in_ok-reason.ensures.clause ends c.in_ok-ending.ending c.in_ok-ending.ensures,
+      );
+      log = log_rests g.L.Sink g.met.L.Sink.keeps_itself c.args.log.now;
+    }
 
 pub tell_reason-requires-clause-stands : goal.tell_reason-requires-clause-stands
 tell_reason-requires-clause-stands g c =

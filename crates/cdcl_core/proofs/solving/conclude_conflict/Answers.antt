@@ -1,8 +1,9 @@
-use Rattle.std.proofs.Common.{◌∙◌, ◌+◌, sym, subst, arith}
+use Rattle.std.proofs.Common.{◌∙◌, ◌+◌, refl, sym, ap, subst, Some, inr, arith}
 use Rattle.std.proofs.lemmas.Result.{err_from_is_err_and}
 use Rattle.cx_base.specs.Problem.{Problem}
 use Rattle.search_policy.specs.Assuming.{KeepsAssumptions}
 use Rattle.cdcl_search.specs.GoingOn.{log_then}
+use Rattle.cdcl_core.specs.declared.solving.Outcome.TheVariants.{Unsat}
 use Rattle.cdcl_core.proofs.Answering.{refutes_within}
 use Rattle.cdcl_core.proofs.FailLaws.{conflict_ends_at}
 use Rattle.cdcl_core.proofs.solving.conclude_conflict.Goals as goal
@@ -48,7 +49,7 @@ returns-in_err-failed-clause-leaves g c =
 pub returns-in_ok-failed-in-Ending-clause-leaves : goal.returns-in_ok-failed-in-Ending-clause-leaves
 returns-in_ok-failed-in-Ending-clause-leaves g c =
     let few = c.requires.searches.few.0 in
-    let ends = c.in_ok-failed-in-Ending.ensures in
+    let ends = c.in_ok-failed-in-Ending.ensures.ends in
     record {
       goes_on = refutes_within c.tell_ending.new.log.formula.now (c.args.state.now.conflicts + 1) c.args.budget (g.L.Sink.items c.tell_ending.new.log.sink.now) c.in_ok-failed-in-Ending.failed (omega (arith, few)) ends.refutes;
       one_more = tt;
@@ -60,7 +61,7 @@ returns-in_ok-failed-in-Ending-clause-leaves g c =
 pub returns-in_err-failed-in-Ending-clause-leaves : goal.returns-in_err-failed-in-Ending-clause-leaves
 returns-in_err-failed-in-Ending-clause-leaves g c =
     let fault = err_from_is_err_and c.from_residual-in_err-failed-in-Ending.result c.from_residual-in_err-failed-in-Ending.ensures.1 in
-    rw (fault.1, fault.2) (record { goes_on = tt; one_more = tt; keeps = tt; clear = tt; log = log_then g.L.Sink g.met.L.Sink.keeps_on _ c.conflict_clause.new.log _ _ c.in_ok-conclusion.ensures.concludes_on.log c.in_err-failed-in-Ending.ensures.log })
+    rw (fault.1, fault.2) (record { goes_on = tt; one_more = tt; keeps = tt; clear = tt; log = log_then g.L.Sink g.met.L.Sink.keeps_on _ c.conflict_clause.new.log _ _ c.in_ok-conclusion.ensures.concludes_on.log c.in_err-failed-in-Ending.ensures.ends.log })
 
 pub returns-in-Clause-clause-leaves : goal.returns-in-Clause-clause-leaves
 returns-in-Clause-clause-leaves g c = record {
@@ -70,3 +71,16 @@ returns-in-Clause-clause-leaves g c = record {
   clear = c.learn_and_jump.ensures.clear;
   log = log_then g.L.Sink g.met.L.Sink.keeps_on _ c.conflict_clause.new.log _ _ c.in_ok-conclusion.ensures.concludes_on.log c.learn_and_jump.ensures.log;
 }
+
+pub returns-then-level-assumptions-clause-none : goal.returns-then-level-assumptions-clause-none
+returns-then-level-assumptions-clause-none g c = λ level.
+    let checked = c.requires.reaches.units level in
+    let all = c.requires.reaches.settles.1 in
+    let few = c.requires.searches.stands.3.units.few in
+    ap (λ failed. Some (Unsat failed)) (c.in_ok-failed.ensures.none (inr (omega (arith, checked, all, few))) refl level)
+
+pub returns-in_ok-failed-in-Ending-clause-none : goal.returns-in_ok-failed-in-Ending-clause-none
+returns-in_ok-failed-in-Ending-clause-none g c = λ level. absurd (let above = c.if-level-assumptions.false in let at = c.level.ensures.level in omega (arith, above, at, level))
+
+pub returns-in-Clause-clause-none : goal.returns-in-Clause-clause-none
+returns-in-Clause-clause-none g c = λ level. absurd (let above = c.if-level-assumptions.false in let at = c.level.ensures.level in omega (arith, above, at, level))

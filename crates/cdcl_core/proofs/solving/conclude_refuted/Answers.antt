@@ -1,4 +1,4 @@
-use Rattle.std.proofs.Common.{refl, ◌∙◌, sym, subst, None}
+use Rattle.std.proofs.Common.{refl, ◌∙◌, sym, subst, None, inl}
 use Rattle.cx_base.specs.Problem.{Problem}
 use Rattle.cdcl_core.specs.Failing.{EndsAtPlace}
 use Rattle.cdcl_core.proofs.FailLaws.{start_ends_at}
@@ -14,4 +14,4 @@ pub end-requires-clause-going : goal.end-requires-clause-going
 end-requires-clause-going g c = c.in_ok-conclusion.ensures.concludes_on.log.failed ∙ c.requires.going
 
 pub returns-clause-none : goal.returns-clause-none
-returns-clause-none g c = λ of. c.end.ensures.none (c.in_ok-conclusion.ensures.by_clause of) refl c.requires.refuted.level
+returns-clause-none g c = λ of. c.end.ensures.none (inl (c.in_ok-conclusion.ensures.by_clause of)) refl c.requires.refuted.level
