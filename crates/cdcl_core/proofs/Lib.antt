@@ -31,3 +31,4 @@ pub mod NarrowLogs
 pub mod RecoveredWithin
 pub mod NarrowSettled
 pub mod NarrowAnswers
+pub mod RaisedScores

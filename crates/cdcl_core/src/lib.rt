@@ -12,6 +12,7 @@ mod jumping;
 mod learning;
 mod narrowing;
 mod originals;
+mod preferring;
 mod recovering;
 mod reducing;
 mod refuting;

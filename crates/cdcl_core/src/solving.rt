@@ -30,6 +30,7 @@ use crate::filling::{Filled, fill, nothing_filled};
 use crate::jumping::jump;
 use crate::learning::learn;
 use crate::originals::tell_originals;
+use crate::preferring::prefer_free;
 use crate::recovering::all_parities;
 use crate::refuting::is_refuted;
 use crate::schedule::{Schedule, follow_schedule};
@@ -252,8 +253,8 @@ fn round<P: ParityEngine, L: Sink<Item = LogEvent>>(
     conclude(log, state, engine, assumptions, marks, budget, reached)
 }
 
-/// Searches up to the budget, from the beginning on.
-fn search<P: ParityEngine, L: Sink<Item = LogEvent>>(
+/// Searches in rounds up to the budget, from the beginning on.
+fn search_in_rounds<P: ParityEngine, L: Sink<Item = LogEvent>>(
     log: &mut SearchLog<L>,
     state: &mut SearchState,
     engine: &mut P,
@@ -275,6 +276,25 @@ fn search<P: ParityEngine, L: Sink<Item = LogEvent>>(
         }
         follow_schedule(log, state, engine, &mut assumptions, &mut schedule)?;
     }
+}
+
+/// Searches up to the budget, from the beginning on. It prefers variables that are no row's basic one.
+fn search<P: ParityEngine, L: Sink<Item = LogEvent>>(
+    log: &mut SearchLog<L>,
+    state: &mut SearchState,
+    engine: &mut P,
+    budget: u64,
+) -> Result<Outcome, CoreFault>
+    requires begins { IsAtStart log.old.formula.now (told_in L.Sink log.old) state.old (P.state engine.old) }
+    requires budget { (1 ≤ budget) × (budget ≤ 10 ^ 18) }
+    requires going { HasNotFailed L.Sink log.old }
+    ensures answers { IfOk result (λ a. IsRightOutcome log.new.formula.now budget (told_in L.Sink log.new) a) }
+    ensures settled { SettledWithRecovered log.new.formula.now → IfOk result (λ a. IsSettledBy log.new.formula.now 1 (told_in L.Sink log.new) a) }
+    ensures log { GoesOn L.Sink log.old (fault_in result) log.new }
+{
+    let vars = log.formula.vars();
+    prefer_free(log.alloc, vars, &mut state.order, engine)?;
+    search_in_rounds(log, state, engine, budget)
 }
 
 /// Fills the clauses of the formula into a search that has none yet, begins it over these parities, and searches up to the budget. Clauses of

@@ -1,80 +1,34 @@
-use Rattle.std.proofs.Common.{◌+◌, ◌<◌, ◌∙◌, sym, subst, arith}
-use Rattle.search_steps.specs.Recovering.{SettledWithRecovered}
-use Rattle.cdcl_search.specs.GoingOn.{log_rests, log_then}
-use Rattle.cdcl_core.specs.Results.{IsSettledBy}
+use Rattle.std.proofs.Common.{◌≤◌, ◌∙◌, sym, subst}
+use Rattle.cx_base.specs.declared.literal.TheConstants.{MAX_VARIABLE}
+use Rattle.cdcl_core.proofs.RaisedScores.{order_raised}
+use Rattle.cdcl_search.specs.GoingOn.{log_stops}
 use Rattle.std.proofs.lemmas.Result.{err_from_is_err_and}
 use Rattle.cdcl_core.proofs.solving.search.Goals as goal
 
-pub round-requires-clause-settled : goal.round-requires-clause-settled
-round-requires-clause-settled g c = λ s. (c.loop-assumptions.invariant.settled s).0
+pub prefer_free-requires-clause-few : goal.prefer_free-requires-clause-few
+prefer_free-requires-clause-few g c = subst (λ n. n ≤ MAX_VARIABLE) (sym c.vars-vars.ensures.variables) c.vars-vars.ensures.within.0
 
-pub loop-assumptions-preserved : goal.loop-assumptions-preserved
-loop-assumptions-preserved g c =
-    let i = c.loop-assumptions.invariant in
-    let leaves = c.in_ok-outcome.ensures.leaves in
-    let goes_on = rw c.in_default.is at leaves.goes_on in
-    let then = c.in_ok-follow_schedule.ensures in
+pub prefer_free-requires-clause-same : goal.prefer_free-requires-clause-same
+prefer_free-requires-clause-same g c =
+    let ties = c.requires.begins.stands.3 in
+    c.vars-vars.ensures.variables ∙ sym (ties.trail.stand.variables ∙ ties.trail.variables)
+
+pub prefer_free-requires-clause-engine : goal.prefer_free-requires-clause-engine
+prefer_free-requires-clause-engine g c = c.vars-vars.ensures.variables ∙ sym c.requires.begins.stands.3.engine.vars
+
+pub search_in_rounds-requires-clause-begins : goal.search_in_rounds-requires-clause-begins
+search_in_rounds-requires-clause-begins g c =
+    let begins = c.requires.begins in
+    let raised = c.in_ok-prefer_free.ensures in
     record {
-      goes_on = record {
-        stands = then.searches_on.stands;
-        unbroken = then.unbroken;
-        fewer = subst (λ n. n < c.args.budget) (sym then.searches_on.conflicts) goes_on.fewer;
-      };
-      settled = λ s. absurd (rw c.in_default.is at (c.in_ok-outcome.ensures.settled (subst SettledWithRecovered then.searches_on.log.formula s) (i.settled (subst SettledWithRecovered (then.searches_on.log.formula ∙ leaves.log.formula) s)).0));
-      clear = leaves.clear;
-      keeps = then.keeps;
-      log = log_then g.L.Sink g.met.L.Sink.keeps_on _ c.round.new.log _ _ (log_then g.L.Sink g.met.L.Sink.keeps_on _ c.loop-assumptions.log _ _ i.log leaves.log) then.searches_on.log;
+      stands = order_raised c.args.log.now.formula.now c.args.state.now (g.P.ParityEngine.state c.args.engine.now) (g.L.Sink.items c.args.log.now.sink.now) begins.stands
+          c.prefer_free.new.order raised.standing raised.scores;
+      unbroken = begins.unbroken;
+      level = begins.level;
+      none = begins.none;
     }
 
-pub returns-in-Some-clause-settled : goal.returns-in-Some-clause-settled
-returns-in-Some-clause-settled g c s =
-    let i = c.loop-assumptions.invariant.settled (subst SettledWithRecovered c.in_ok-outcome.ensures.leaves.log.formula s) in
-    let told = g.L.Sink.items c.round.new.log.sink.now in
-    let h : IsSettledBy c.round.new.log.formula.now (c.loop-assumptions.state.conflicts + 1) told c.in-Some.outcome = rw c.in-Some.is at (c.in_ok-outcome.ensures.settled s i.0) in
-    subst (λ n. IsSettledBy c.round.new.log.formula.now (n + 1) told c.in-Some.outcome) i.1 h
-
-pub returns-in_err-follow_schedule : goal.returns-in_err-follow_schedule
-returns-in_err-follow_schedule g c =
-    let before = log_then g.L.Sink g.met.L.Sink.keeps_on _ c.loop-assumptions.log _ _ c.loop-assumptions.invariant.log c.in_ok-outcome.ensures.leaves.log in
-    let fault = err_from_is_err_and c.from_residual-in_err-follow_schedule.result c.from_residual-in_err-follow_schedule.ensures.1 in
-    rw (fault.1, fault.2) (record { answers = tt; settled = λ s. tt; log = log_then g.L.Sink g.met.L.Sink.keeps_on _ c.round.new.log _ _ before c.in_err-follow_schedule.ensures.searches_on.log })
-
-pub returns-in_err-outcome : goal.returns-in_err-outcome
-returns-in_err-outcome g c =
-    let fault = err_from_is_err_and c.from_residual-in_err-outcome.result c.from_residual-in_err-outcome.ensures.1 in
-    rw (fault.1, fault.2) (record { answers = tt; settled = λ s. tt; log = log_then g.L.Sink g.met.L.Sink.keeps_on _ c.loop-assumptions.log _ _ c.loop-assumptions.invariant.log c.in_err-outcome.ensures.leaves.log })
-
-pub returns-in-Some-clause-log : goal.returns-in-Some-clause-log
-returns-in-Some-clause-log g c = log_then g.L.Sink g.met.L.Sink.keeps_on _ c.loop-assumptions.log _ _ c.loop-assumptions.invariant.log c.in_ok-outcome.ensures.leaves.log
-
-pub returns-in-Some-clause-answers : goal.returns-in-Some-clause-answers
-returns-in-Some-clause-answers g c = rw c.in-Some.is at c.in_ok-outcome.ensures.leaves.goes_on
-
-pub round-requires-clause-searches : goal.round-requires-clause-searches
-round-requires-clause-searches g c =
-    let i = c.loop-assumptions.invariant in
-    record { stands = i.goes_on.stands; keeps = i.keeps; few = (i.goes_on.fewer, c.requires.budget.1); clear = i.clear; going = i.log.failed ∙ c.requires.going }
-
-pub round-requires-clause-unbroken : goal.round-requires-clause-unbroken
-round-requires-clause-unbroken g c = c.loop-assumptions.invariant.goes_on.unbroken
-
-pub follow_schedule-requires-clause-ready : goal.follow_schedule-requires-clause-ready
-follow_schedule-requires-clause-ready g c =
-    let goes_on = rw c.in_default.is at c.in_ok-outcome.ensures.leaves.goes_on in
-    record { stands = goes_on.stands; unbroken = goes_on.unbroken; going = c.in_ok-outcome.ensures.leaves.log.failed ∙ c.loop-assumptions.invariant.log.failed ∙ c.requires.going }
-
-pub loop-assumptions-init : goal.loop-assumptions-init
-loop-assumptions-init g c = record {
-  goes_on = record {
-    stands = c.requires.begins.stands;
-    unbroken = c.requires.begins.unbroken;
-    fewer = let none = c.requires.begins.none in let some = c.requires.budget.0 in omega (arith, none, some);
-  };
-  settled = λ s. (c.requires.begins.level, c.requires.begins.none);
-  clear = c.new-marks.ensures;
-  keeps = c.in_ok-assumptions.ensures c.args.state.now.trail c.requires.begins.stands.3.trail.variables c.requires.begins.level;
-  log = log_rests g.L.Sink g.met.L.Sink.keeps_itself c.args.log.now;
-}
-
-pub follow_schedule-requires-clause-keeps : goal.follow_schedule-requires-clause-keeps
-follow_schedule-requires-clause-keeps g c = rw c.in_default.is at c.in_ok-outcome.ensures.leaves.keeps
+pub returns-in_err-prefer_free : goal.returns-in_err-prefer_free
+returns-in_err-prefer_free g c =
+    let fault = err_from_is_err_and c.from_residual.result c.from_residual.ensures.1 in
+    rw (fault.1, fault.2) (record { answers = tt; settled = λ s. tt; log = log_stops g.L.Sink g.met.L.Sink.keeps_itself c.args.log.now })

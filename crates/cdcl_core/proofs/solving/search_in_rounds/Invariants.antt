@@ -4,7 +4,7 @@ use Rattle.search_steps.specs.Recovering.{SettledWithRecovered}
 use Rattle.search_policy.specs.Assuming.{KeepsAssumptions}
 use Rattle.cdcl_search.specs.Logs.{GoesOn}
 use Rattle.cdcl_core.specs.Concluding.{SearchGoesOn}
-use Rattle.cdcl_core.proofs.solving.search.Given as goal
+use Rattle.cdcl_core.proofs.solving.search_in_rounds.Given as goal
 
 abbrev pub invariant-loop-assumptions : goal.invariant-loop-assumptions
 invariant-loop-assumptions g l = record {
