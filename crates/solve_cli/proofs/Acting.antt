@@ -1,9 +1,9 @@
 -- Calls one after the other, for all files that agree with what was read; and what a read leaves possible.
-use Rattle.std.proofs.Common.{◌≡◌, refl, sym, ap, ◌∙◌, subst, ℕ, ◌+◌, ◌≤◌, ◌||◌, Bool, true, false, true≢false, List, [], ◌++◌, length, length-append, append_assoc, Option, Some, None, IfSome, unwrap_or, arith}
+use Rattle.std.proofs.Common.{◌≡◌, refl, sym, ap, ◌∙◌, subst, ℕ, ◌+◌, ◌≤◌, ◌||◌, Bool, true, false, true≢false, [], ◌++◌, length, length-append, append_assoc, Option, Some, None, IfSome, unwrap_or, arith}
 use Rattle.cx_desk.specs.declared.desk.Slot.{Slot}
 use Rattle.cx_desk.specs.declared.desk.Slot.TheVariants as slot
 use Rattle.cx_desk.specs.declared.desk.Port.{Port}
-use Rattle.cx_desk.specs.Gave.{Gave, Agrees, nothing, joined}
+use Rattle.cx_desk.specs.Gave.{Gave, Agrees, joined}
 use Rattle.cx_desk.specs.Outside.{Bytes, Files, Given, Started, Outside, given_in, asked_in, started_in, FileAgrees, AgreeWith}
 use Rattle.cx_desk.specs.Agreeing.{MayHave}
 use Rattle.cx_desk.specs.Calls.{opened, asking, gained, WriteFaulted}

@@ -19,8 +19,8 @@ use Rattle.solve_cli.specs.declared.ending.Outcome.{Outcome}
 use Rattle.solve_cli.specs.declared.ending.Outcome.TheVariants as outcome
 use Rattle.solve_cli.specs.Endings.{answer_text}
 use Rattle.solve_cli.specs.Seen.{Seen, seen, asks, creates, says, WriteFault, text_named}
-use Rattle.solve_cli.specs.Commands.{second_started, proof_created, asked_to}
-use Rattle.solve_cli.specs.Blasting.{IsInClauses, BlastFails, IsBlastedText}
+use Rattle.solve_cli.specs.Commands.{second_started, proof_created}
+use Rattle.solve_cli.specs.Blasting.{IsInClauses, BlastFails}
 use Rattle.solve_cli.specs.Happens.{FormulaRead, Judged, Due, Ends, MayWrite, Works}
 use Rattle.solve_cli.proofs.Gaining.{write_fault}
 use Rattle.solve_cli.proofs.Works.{says-none, all_files, formula_in, stopped}

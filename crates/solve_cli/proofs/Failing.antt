@@ -1,5 +1,5 @@
 -- The literals that the core says have failed, in order, as they are told.
-use Rattle.std.proofs.Common.{◌≡◌, ℕ, ℤ, ◌+◌, ◌<◌, nat_lt, nat_cmp, Bool, true, false, cond, ◌&&◌, ◌||◌, List, [], ◌∷◌, ◌++◌, length, Option, Some, None, flat_map, inl, inr, refl, ap, sym, subst, ◌∙◌, arith, true≢false, lt-ltb}
+use Rattle.std.proofs.Common.{◌≡◌, ℕ, ℤ, ◌+◌, ◌<◌, nat_lt, nat_cmp, Bool, true, false, cond, List, [], ◌∷◌, ◌++◌, length, Option, Some, None, flat_map, inl, inr, refl, ap, sym, subst, ◌∙◌, arith, true≢false, lt-ltb}
 use Rattle.std.specs.List.{list_all, AllByRecursion, dedup}
 use Rattle.std.specs.List.Sorted.{IsPermutation, IsSorted, IsStrictlySortedBy}
 use Rattle.std.specs.Cmp.{IsTotalOrder, nat_cmp_total, on_total, unsigned_tied}
@@ -9,7 +9,7 @@ use Rattle.std.proofs.lemmas.Bool.{and_parts, and_from, ltb-true}
 use Rattle.std.proofs.lemmas.List.Elements.{filter_map-append}
 use Rattle.std.proofs.lemmas.List.Folds.{list_all-append}
 use Rattle.std.proofs.lemmas.List.Kept.{IsStrictlySortedBy-dedup}
-use Rattle.cx_base.specs.Assumptions.{assumes, clashes, IsClash, IsFailed, without_assumptions, assuming}
+use Rattle.cx_base.specs.Assumptions.{assumes, IsFailed, without_assumptions, assuming}
 use Rattle.cx_base.specs.Events.{steps_of, step_of}
 use Rattle.cx_base.specs.Literals.{Literal, code_of, literal_true, positive_of, negative_of}
 use Rattle.cx_base.specs.Problem.{Problem, Meets, constraint_met, clauses_of, parities_of}
@@ -21,12 +21,11 @@ use Rattle.cx_base.proofs.Parts.{both_kinds}
 use Rattle.cx_texts.specs.Printed.{HasText, printed_log}
 use Rattle.cx_texts.specs.LogText.{LogReads}
 use Rattle.cx_base.specs.Endings.{finished}
-use Rattle.cx_semantics.specs.Chain.{has_literal, HaveSame, negations}
-use Rattle.cx_semantics.specs.LogRules.{derived_clause}
+use Rattle.cx_semantics.specs.Chain.{has_literal, HaveSame}
 use Rattle.cx_semantics.proofs.Members.{has_at_head, has_behind, has_split}
-use Rattle.cdcl_core.specs.Results.{Refutes, AreBothOfClash, EndsFor}
+use Rattle.cdcl_core.specs.Results.{Refutes, EndsFor}
 use Rattle.cdcl_core.proofs.SortedLiterals.{sorted_found}
-use Rattle.solve_cli.specs.Failed.{has_assumption, AreRising, AreInOrder, HaveFailed, FailsAs, AreOfLastStep, NegatesLastStep}
+use Rattle.solve_cli.specs.Failed.{has_assumption, AreRising, AreInOrder, FailsAs, NegatesLastStep}
 use Rattle.solve_cli.proofs.Logging.{steps_read}
 
 -- ---- the number of assumption constraints

@@ -1,5 +1,5 @@
 -- What the elaborator leaves on the Proof port, in the words of the top call.
-use Rattle.std.proofs.Common.{◌≡◌, ◌<◌, ◌≤◌, ℕ, List, [], ◌∷◌, ◌++◌, Bool, true, false, length, take, drop, Option, Some, None, IfSome, Result, Ok, Err, IfOk, IfErr, MatchResult, inl, inr, refl, ap, sym, subst, ◌∙◌, append-nil, append_assoc, length-append, arith}
+use Rattle.std.proofs.Common.{◌≡◌, ◌<◌, ◌≤◌, ℕ, List, [], ◌∷◌, ◌++◌, Bool, true, false, length, take, drop, Option, Some, IfSome, Result, Ok, Err, IfOk, IfErr, MatchResult, inl, inr, refl, ap, sym, subst, ◌∙◌, append-nil, append_assoc, length-append, arith}
 use Rattle.std.proofs.lemmas.Grind.{flat_map-append}
 use Rattle.std.proofs.lemmas.Option.{IfSome_then}
 use Rattle.std.proofs.lemmas.List.{take-append-drop}
@@ -110,7 +110,7 @@ before w f name k c o n log ending empty h gains reads judged =
       record { steps = h.steps; right = inl right.1; rest = []; front = append-nil (printed_proof h.steps) },
     ))
 
--- want of memory: what it left are right steps
+-- out of memory: what it left are right steps
 pub so_far : (w : Option Files) (f : Problem) (o n : Outside) → HasNoProof o → Prints o n → Gained (steps_told o) (steps_told n) (IsOpen (proof_calculus f))
     → (proof : Bytes) × (seen w n ≡ says port.Proof proof (seen w o)) × IfSome w (λ _. IsRightSoFar f proof)
 so_far w f o n empty h gains = left w (IsOpen (proof_calculus f)) (λ proof. IfSome w (λ _. IsRightSoFar f proof)) o n h empty gains (λ right. all_files w (λ _. record {
@@ -158,7 +158,7 @@ torn_line : (steps : List ProofStep) (part : ProofStep) (kept : ℕ) → AllByRe
     → begun_line [] (printed_proof steps ++ take kept (step_line part)) ≡ take kept (step_line part)
 torn_line steps part kept texts text low = begun_front (printed_proof steps) part kept (begun_proof [] steps refl texts) text low
 
--- a front of a right step's line behind right steps is a front of their text
+-- a prefix of a right step's line after right steps is a prefix of their text
 torn_front : (f : Problem) (steps : List ProofStep) (step part : ProofStep) (k kept : ℕ) → take kept (step_line part) ≡ take k (step_line step) → AreRight f (steps ++ step ∷ [])
     → IsRightSoFar f (printed_proof steps ++ take kept (step_line part))
 torn_front f steps step part k kept same right = record {
@@ -171,7 +171,7 @@ torn_front f steps step part k kept same right = record {
       ∙ sym (flat_map-append step_line steps (step ∷ []));
 }
 
--- the step behind the gained ones that was torn
+-- the torn step after the gained ones
 abbrev Torn : Problem → ProofStep → List ProofStep → Type 0
 Torn f step steps = (clashes f.constraints ≡ false) × (tables : Tables) × Runs (proof_calculus f) (first_tables f) steps tables × IsRight (proof_calculus f) tables step
 
@@ -195,7 +195,7 @@ torn_right f o n h step empty gains torn =
 pub write_fault : (w : Option Files) (text : Bytes) (o n : Outside) → WriteFaulted (gained port.Proof text o) n → WriteFault (says port.Proof text (seen w o)) (seen w n)
 write_fault w text o n h = record { else_same = ap (seen w) h.else_same; rose = h.rose }
 
--- a fault of writing: what it left are right steps and a front of one more
+-- a fault of writing: what it left are right steps and a prefix of one more
 pub torn_so_far : (w : Option Files) (f : Problem) (o n : Outside) (step : ProofStep) → HasNoProof o → Tears o n → TornOn step n
     → Gained (steps_told o) (steps_told n) (λ steps. (clashes f.constraints ≡ false) × (tables : Tables) × Runs (proof_calculus f) (first_tables f) steps tables × IsRight (proof_calculus f) tables step)
     → (proof : Bytes) × WriteFault (says port.Proof proof (seen w o)) (seen w n) × IfSome w (λ _. IsRightSoFar f proof)
@@ -205,7 +205,7 @@ torn_so_far w f o n step empty h torn gains = (
   all_files w (λ _. torn_right f o n h step empty gains torn),
 )
 
--- the same of what the sink tells
+-- what it left, as the sink tells it
 told_as : (P : List ProofStep → Type 0) (a o b n : Option (List ProofStep)) → a ≡ o → b ≡ n → Gained a b P → Gained o n P
 told_as P a o b n first last h = subst (λ (x : Option (List ProofStep)). Gained x n P) first (subst (λ (x : Option (List ProofStep)). Gained a x P) last h)
 

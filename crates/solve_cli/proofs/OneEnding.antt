@@ -1,7 +1,10 @@
 -- At most one ending is due for a command and its files.
 use Rattle.std.proofs.Common.{◌≡◌, ◌<◌, ◌≤◌, ◌⊎◌, ℕ, Bool, List, length, Option, Some, None, Result, Ok, Err, inl, inr, refl, ap, sym, subst, ◌∙◌, arith}
+use Rattle.std.specs.Prelude.{⊤}
 use Rattle.std.proofs.lemmas.Bool.{cases_lt}
 use Rattle.cx_base.specs.Problem.{Problem}
+use Rattle.cx_base.specs.declared.literal.TheConstants.{MAX_VARIABLE}
+use Rattle.xor_blast.specs.Blasted.{PassesLimit, variables_after}
 use Rattle.cx_texts.specs.declared.offence.Offence.{Offence}
 use Rattle.cx_texts.specs.FormulaText.{Reads, FirstOffence, ReadsAs}
 use Rattle.cx_semantics.specs.Judging.{Judgement, accepted, refused}
@@ -23,8 +26,9 @@ use Rattle.solve_cli.specs.declared.ending.WrongAnswer.{WrongAnswer}
 use Rattle.solve_cli.specs.declared.ending.WrongAnswer.TheVariants as wrong
 use Rattle.solve_cli.specs.Seen.{text_named}
 use Rattle.solve_cli.specs.Commands.{formula_of, second_of, second_text}
-use Rattle.solve_cli.specs.Happens.{IfNamed, IfNamedElse, FormulaRead, IsPlanted, IsFormula, EarlyDue, refusal_of, Judged, LateDue, Due, IsEarlyOrRead}
+use Rattle.solve_cli.specs.Happens.{IfNamed, IfNamedElse, FormulaRead, IsPlanted, IsFormula, EarlyDue, refusal_of, Judged, LateDue, AreOfBlasted, Due, IsEarlyOrRead}
 use Rattle.solve_cli.specs.Happens.{Early as AreEarly}
+use Rattle.solve_cli.specs.TwoRuns.{IsComputed}
 use Rattle.solve_cli.proofs.Dues.{same_of_one, one_formula}
 use Rattle.solve_cli.proofs.OneTrimming.{one_trim_ending}
 
@@ -57,7 +61,7 @@ not_early : (limit : ℕ) (text : Bytes) (f : Problem) (e : Ending) → Early li
 not_early limit text f _ (bad o _ p) r = not_both_read text f o r.reads p
 not_early limit text f _ (long l) r = let fits : length text ≤ limit = r.fits in absurd (omega arith)
 
--- the same of a command's formula, where it has one
+-- those of a command's formula, where it has one
 early_of : (name : Option Bytes) (limit : ℕ) (files : Files) (d e : Ending) → IfNamed name (λ n. EarlyDue limit (text_named n files) d)
     → IfNamed name (λ n. EarlyDue limit (text_named n files) e) → d ≡ e
 early_of None limit files d e h k = absurd h
@@ -149,31 +153,97 @@ one_answer_ending : (n a : Bytes) (f : Problem) (text : Bytes) (d e : Ending) �
 one_answer_ending n a f text d e h k =
     same_ending {Has = IsAnswer f text} answer_ending d e (λ x y p q. same_answer text f x y p.0 q.0 p.1 q.1) (of_answer n a f text d h) (of_answer n a f text e k)
 
-one_judged : (p : Plan) (second : Bytes) (f : Problem) (text : Bytes) (d e : Ending) → second_of p ≡ Some second → Judged d p f text → Judged e p f text → d ≡ e
-one_judged (plan.Check n q) second f text d e named h k = one_proof_ending n q f text d e h k
-one_judged (plan.Model n a) second f text d e named h k = one_answer_ending n a f text d e h k
-one_judged (plan.Elab n l q) second f text d e named h k = one_log_ending n l q f text d e h k
-one_judged (plan.Solve n l c) second f text d e named h k = cc
-one_judged (plan.Demo a b c) second f text d e named h k = cc
-one_judged (plan.Blast n o) second f text d e named h k = cc
-one_judged (plan.Affine n) second f text d e named h k = cc
-one_judged (plan.Trim n q o) second f text d e named h k = one_trim_ending n q o f text d e h k
+-- ---- formulas in clauses
 
-two_late : (p : Plan) (second : Bytes) (limit : ℕ) (f : Problem) (text : Bytes) (d e : Ending) → second_of p ≡ Some second
-    → LateDue p limit f text d → LateDue p limit f text e → d ≡ e
-two_late p second limit f text d e named (inl h) (inl k) = h.1 ∙ sym k.1
-two_late p second limit f text d e named (inl h) (inr k) = let over : limit < length text = h.0 in let fits : length text ≤ limit = k.0 in absurd (omega arith)
-two_late p second limit f text d e named (inr h) (inl k) = let over : limit < length text = k.0 in let fits : length text ≤ limit = h.0 in absurd (omega arith)
-two_late p second limit f text d e named (inr h) (inr k) = one_judged p second f text d e named h.1 k.1
+-- what putting a formula in clauses ends in
+data EndsInClauses (f : Problem) : Ending → Type 0 where
+  made : (variables clauses : ℕ) → AreOfBlasted f variables clauses → EndsInClauses f (ending.Blasted variables clauses)
+  past : (k : ℕ) → PassesLimit f k → EndsInClauses f (ending.TooManyVariables k)
 
-pub one_ending : (p : Plan) (second : Bytes) (limit : ℕ) (files : Files) (d e : Ending) → second_of p ≡ Some second → Due p limit files d → Due p limit files e → d ≡ e
-one_ending p second limit files d e named (inl h) (inl k) = early_of (formula_of p) limit files d e h k
-one_ending p second limit files d e named (inl h) (inr k) = absurd (early_or_read (formula_of p) limit files k.formula d h _ k.is_formula)
-one_ending p second limit files d e named (inr h) (inl k) = absurd (early_or_read (formula_of p) limit files h.formula e k _ h.is_formula)
-one_ending p second limit files d e named (inr h) (inr k) =
+ends_in_clauses : (n o : Bytes) (f : Problem) (text : Bytes) (e : Ending) → Judged e (plan.Blast n o) f text → EndsInClauses f e
+ends_in_clauses n o f text (ending.Blasted variables clauses) h = made variables clauses h
+ends_in_clauses n o f text (ending.TooManyVariables k) h = past k h
+ends_in_clauses n o f text e h = absurd h
+
+-- of two constraints the later one is not the first that passes the limit
+not_later : (f : Problem) (i k : ℕ) → PassesLimit f i → PassesLimit f k → i < k → ⊥
+not_later f i k h q less =
+    let above : MAX_VARIABLE < variables_after f i = h.above in
+    let within : variables_after f i ≤ MAX_VARIABLE = q.before i less in absurd (omega arith)
+
+one_limit : (f : Problem) (i k : ℕ) → PassesLimit f i → PassesLimit f k → i ≡ k
+one_limit f i k h q = by (cases_lt i k) (cases_lt k i)
+  where
+    by : (i < k) ⊎ (k ≤ i) → (k < i) ⊎ (i ≤ k) → i ≡ k
+    by (inl less) c = absurd (not_later f i k h q less)
+    by (inr a) (inl less) = absurd (not_later f k i q h less)
+    by (inr a) (inr b) = omega (arith, a, b)
+
+same_in_clauses : (f : Problem) (d e : Ending) → EndsInClauses f d → EndsInClauses f e → d ≡ e
+same_in_clauses f _ _ (made v c h) (made w e k) = ap (λ (x : ℕ). ending.Blasted x c) (h.variables_are ∙ sym k.variables_are) ∙ ap (ending.Blasted w) (h.clauses_are ∙ sym k.clauses_are)
+same_in_clauses f _ _ (made v c h) (past k q) = absurd (h.within k q)
+same_in_clauses f _ _ (past k q) (made v c h) = absurd (h.within k q)
+same_in_clauses f _ _ (past i h) (past k q) = ap ending.TooManyVariables (one_limit f i k h q)
+
+one_blast_ending : (n o : Bytes) (f : Problem) (text : Bytes) (d e : Ending) → Judged d (plan.Blast n o) f text → Judged e (plan.Blast n o) f text → d ≡ e
+one_blast_ending n o f text d e h k = same_in_clauses f d e (ends_in_clauses n o f text d h) (ends_in_clauses n o f text e k)
+
+-- ---- a command and its files
+
+-- the commands of which one ending is due
+abbrev HasOneEnding : Plan → Type 0
+HasOneEnding (plan.Check n q) = ⊤
+HasOneEnding (plan.Model n a) = ⊤
+HasOneEnding (plan.Elab n l q) = ⊤
+HasOneEnding (plan.Trim n q o) = ⊤
+HasOneEnding (plan.Blast n o) = ⊤
+HasOneEnding p = ⊥
+
+of_second : (p : Plan) (second : Bytes) → second_of p ≡ Some second → HasOneEnding p
+of_second (plan.Check n q) second named = tt
+of_second (plan.Model n a) second named = tt
+of_second (plan.Elab n l q) second named = tt
+of_second (plan.Trim n q o) second named = tt
+of_second (plan.Blast n o) second named = tt
+of_second (plan.Solve n l c) second named = cc
+of_second (plan.Demo a b c) second named = cc
+of_second (plan.Affine n) second named = cc
+
+of_computed : (p : Plan) → IsComputed p → HasOneEnding p
+of_computed (plan.Check n q) h = tt
+of_computed (plan.Model n a) h = tt
+of_computed (plan.Trim n q o) h = tt
+of_computed (plan.Blast n o) h = tt
+of_computed p h = absurd h
+
+one_judged : (p : Plan) (f : Problem) (text : Bytes) (d e : Ending) → HasOneEnding p → Judged d p f text → Judged e p f text → d ≡ e
+one_judged (plan.Check n q) f text d e one h k = one_proof_ending n q f text d e h k
+one_judged (plan.Model n a) f text d e one h k = one_answer_ending n a f text d e h k
+one_judged (plan.Elab n l q) f text d e one h k = one_log_ending n l q f text d e h k
+one_judged (plan.Trim n q o) f text d e one h k = one_trim_ending n q o f text d e h k
+one_judged (plan.Blast n o) f text d e one h k = one_blast_ending n o f text d e h k
+one_judged p f text d e one h k = absurd one
+
+two_late : (p : Plan) (limit : ℕ) (f : Problem) (text : Bytes) (d e : Ending) → HasOneEnding p → LateDue p limit f text d → LateDue p limit f text e → d ≡ e
+two_late p limit f text d e one (inl h) (inl k) = h.1 ∙ sym k.1
+two_late p limit f text d e one (inl h) (inr k) = let over : limit < length text = h.0 in let fits : length text ≤ limit = k.0 in absurd (omega arith)
+two_late p limit f text d e one (inr h) (inl k) = let over : limit < length text = k.0 in let fits : length text ≤ limit = h.0 in absurd (omega arith)
+two_late p limit f text d e one (inr h) (inr k) = one_judged p f text d e one h.1 k.1
+
+one_due : (p : Plan) (limit : ℕ) (files : Files) (d e : Ending) → HasOneEnding p → Due p limit files d → Due p limit files e → d ≡ e
+one_due p limit files d e one (inl h) (inl k) = early_of (formula_of p) limit files d e h k
+one_due p limit files d e one (inl h) (inr k) = absurd (early_or_read (formula_of p) limit files k.formula d h _ k.is_formula)
+one_due p limit files d e one (inr h) (inl k) = absurd (early_or_read (formula_of p) limit files h.formula e k _ h.is_formula)
+one_due p limit files d e one (inr h) (inr k) =
     let same = formula_of_name p (formula_of p) limit files h.formula k.formula h.is_formula k.is_formula in
     let due = subst (λ (f : Problem). LateDue p limit f (second_text p files) d) same h.due in
-    two_late p second limit k.formula (second_text p files) d e named due k.due
+    two_late p limit k.formula (second_text p files) d e one due k.due
+
+pub one_ending : (p : Plan) (second : Bytes) (limit : ℕ) (files : Files) (d e : Ending) → second_of p ≡ Some second → Due p limit files d → Due p limit files e → d ≡ e
+one_ending p second limit files d e named h k = one_due p limit files d e (of_second p second named) h k
+
+pub one_computed : (p : Plan) (limit : ℕ) (files : Files) (d e : Ending) → IsComputed p → Due p limit files d → Due p limit files e → d ≡ e
+one_computed p limit files d e computed h k = one_due p limit files d e (of_computed p computed) h k
 
 -- ---- the formula's refusals
 

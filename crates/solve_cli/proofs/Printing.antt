@@ -29,11 +29,9 @@ use Rattle.cdcl_core.specs.Results.{IsFresh, IsRightOutcome, Refutes}
 use Rattle.cdcl_core.specs.declared.solving.Outcome.{Outcome as Answer}
 use Rattle.cdcl_core.specs.declared.solving.Outcome.TheVariants as answer
 use Rattle.solve_cli.specs.declared.ending.Ending.{Ending}
-use Rattle.solve_cli.specs.declared.ending.Ending.TheVariants as ending
 use Rattle.solve_cli.specs.declared.ending.Outcome.{Outcome}
-use Rattle.solve_cli.specs.declared.ending.Outcome.TheVariants as outcome
 use Rattle.solve_cli.specs.Solving.{SearchesOn, AnswersAs}
-use Rattle.solve_cli.specs.Seen.{Seen, seen, says, WriteFault}
+use Rattle.solve_cli.specs.Seen.{seen, says, WriteFault}
 use Rattle.solve_cli.specs.Logs.{IsLogSoFar, IsRefutation}
 use Rattle.solve_cli.specs.Steps.{HasNoProof}
 use Rattle.solve_cli.proofs.Acting.{StillRead, still_as, still_gained, still_faulted}
@@ -47,7 +45,7 @@ log_of : (f : Problem) (events : List LogEvent) → AllByRecursion HasText event
 log_of f events texts (inl runs) = inl (open_log f events texts runs)
 log_of f events texts (inr ended) = inr (refutation f events texts ended)
 
--- a front of the text of right events
+-- a prefix of the text of right events
 front_of : (f : Problem) (events : List LogEvent) (bytes rest : Bytes) → AllByRecursion HasText events → AllByRecursion HasLowId events → IsLeft f (Some events) → (SettledWithRecovered f → filter_map mark_of events ≡ [])
     → bytes ++ rest ≡ printed_log events → IsLogSoFar f bytes
 front_of f events bytes rest texts low left none front = record {
@@ -70,7 +68,7 @@ events_printed o n h empty =
 events_hold : (P : Option (List LogEvent) → Type 0) (o n : Outside) (h : Prints o n) → HasNoProof o → P (events_told n) → P (Some h.events)
 events_hold P o n h empty holds = subst P (events_printed o n h empty) holds
 
--- want of memory: what was printed is a right log
+-- out of memory: what was printed is a right log
 logged_so_far : (f : Problem) (o n : Outside) (h : Prints o n) → HasNoProof o → IsLeft f (events_told n) → HaveLowIds (events_told n) → (SettledWithRecovered f → HasNoMarkTold (events_told n))
     → IsLogSoFar f (printed_log h.events)
 logged_so_far f o n h empty left low none =
@@ -85,7 +83,7 @@ torn_line : (events : List LogEvent) (part : LogEvent) (kept : ℕ) → AllByRec
     → begun_line [] (printed_log events ++ take kept (event_line part)) ≡ take kept (event_line part)
 torn_line events part kept texts text low = begun_front (printed_log events) part kept (begun_log [] events refl texts) text low
 
--- a front of an event's line behind right events, where the event may stand behind them, is a front of their text
+-- a prefix of an event's line after right events, where the event may follow them, is a prefix of their text
 torn_front : (f : Problem) (events : List LogEvent) (event part : LogEvent) (k kept : ℕ) → take kept (event_line part) ≡ take k (event_line event) → AllByRecursion HasText events → AllByRecursion HasLowId events
     → (SettledWithRecovered f → filter_map mark_of events ≡ []) → MayStandBehind f (Some events) event → IsLogSoFar f (printed_log events ++ take kept (event_line part))
 torn_front f events event part k kept same texts low none next =
@@ -96,7 +94,7 @@ torn_front f events event part k kept same texts low none next =
     ∙ ap (λ (x : Bytes). printed_log events ++ x) (take-append-drop k (event_line event) ∙ sym (append-nil (event_line event)))
     ∙ sym (flat_map-append event_line events (event ∷ [])))
 
--- a fault of writing: what was printed is a front of a right log
+-- a fault of writing: what was printed is a prefix of a right log
 torn_right : (f : Problem) (o n : Outside) (h : Tears o n) (event : LogEvent) → HasNoProof o → HaveLowIds (events_told n)
     → (SettledWithRecovered f → HasNoMarkTold (events_told n)) → TornOn event n → MayStandBehind f (events_told n) event → IsLogSoFar f (printed_log h.events ++ take h.kept (event_line h.part))
 torn_right f o n h event empty low none torn next =

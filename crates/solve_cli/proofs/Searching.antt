@@ -1,7 +1,6 @@
 -- From a search to what `solve` does.
-use Rattle.std.proofs.Common.{◌≡◌, ◌<◌, ◌≤◌, ◌⊎◌, ◌≢◌, ℕ, ℤ, List, [], length, filter_map, take, Option, Some, None, IfSome, Result, Ok, Err, IfOk, inl, inr, refl, ap, sym, subst, ◌∙◌, arith}
+use Rattle.std.proofs.Common.{◌≡◌, ◌⊎◌, ◌≢◌, ℕ, ℤ, List, [], filter_map, Option, Some, None, IfSome, Result, Ok, Err, IfOk, inl, inr, refl, ap, sym, subst, ◌∙◌, arith}
 use Rattle.std.specs.List.{AllByRecursion}
-use Rattle.std.proofs.lemmas.Option.{IfSome_then}
 use Rattle.cx_base.specs.Literals.{Literal}
 use Rattle.cx_base.specs.Problem.{Problem, Meets, Unmet}
 use Rattle.cx_base.specs.declared.steps.LogEvent.{LogEvent}
@@ -116,7 +115,7 @@ module _ (n : Bytes) (l : Option Bytes) (budget limit : ℕ) (old : Seen) (f : P
   of_old : (P : Files → Type 0) → IfSome mid.files P → IfSome old.files P
   of_old P h = subst (λ (w : Option Files). IfSome w P) (ap (λ (s : Seen). s.files) begun ∙ files_at proof_created (plan.Solve n l budget) old) h
 
-  -- the log was printed, and the answer or a front of it
+  -- the log was printed, and the answer or a prefix of it
   pub search_answered : (e : Ending) (at : Seen) (o : Outcome) (new : Seen) → SearchesOn f budget mid (Ok e) at → PutsAnswer e at o new → Works (plan.Solve n l budget) limit old o new
   search_answered e at o new h answers =
       let p = plan.Solve n l budget in
@@ -130,7 +129,7 @@ module _ (n : Bytes) (l : Option Bytes) (budget limit : ℕ) (old : Seen) (f : P
       (if_some_both old.files read finds (λ files r c. gains n l budget limit files f (printed_log events) e r (found f budget events e c)))))
       answers
 
-  -- the search gave up: a front of a right log was printed
+  -- the search gave up: a prefix of a right log was printed
   pub search_gave_up : (o : Outcome) (new : Seen) → SearchesOn f budget mid (Err o) new → Works (plan.Solve n l budget) limit old o new
   search_gave_up outcome.Memory new h = so_far h.0 new h.1 h.2
     where

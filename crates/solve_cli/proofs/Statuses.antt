@@ -1,5 +1,5 @@
 -- What a run says by its status, for the commands that judge a text.
-use Rattle.std.proofs.Common.{◌≡◌, ◌<◌, ◌⊎◌, ℕ, ℤ, List, [], Bool, length, option_map, Option, Some, None, IfSome, inl, inr, refl, ap, sym, subst, ◌∙◌, arith}
+use Rattle.std.proofs.Common.{◌≡◌, ◌<◌, ◌⊎◌, ℕ, ℤ, List, [], Bool, length, Option, Some, None, IfSome, inl, inr, refl, ap, sym, subst, ◌∙◌, arith}
 use Rattle.std.proofs.lemmas.Option.{IfSome_then}
 use Rattle.cx_base.specs.Problem.{Problem, Meets, Unmet}
 use Rattle.cx_judgements.specs.ProofTexts.{Accepted}
@@ -11,7 +11,7 @@ use Rattle.cx_semantics.specs.declared.cause.Cause.{Cause}
 use Rattle.cx_judgements.proofs.TextSoundness.{accepted_is_unmet}
 use Rattle.cx_desk.specs.declared.desk.Slot.TheVariants as slot
 use Rattle.cx_desk.specs.declared.desk.Port.TheVariants as port
-use Rattle.cx_desk.specs.Outside.{Bytes, Files, Written}
+use Rattle.cx_desk.specs.Outside.{Bytes, Files}
 use Rattle.cx_words.specs.Words.{Asks}
 use Rattle.cx_words.specs.declared.plans.Plan.{Plan}
 use Rattle.cx_words.specs.declared.plans.Plan.TheVariants as plan
@@ -21,9 +21,8 @@ use Rattle.solve_cli.specs.declared.ending.Outcome.TheVariants as outcome
 use Rattle.solve_cli.specs.declared.ending.WrongAnswer.{WrongAnswer}
 use Rattle.solve_cli.specs.declared.ending.Status.{Status}
 use Rattle.solve_cli.specs.declared.ending.Status.TheVariants as status
-use Rattle.solve_cli.specs.Endings.{answer_text}
 use Rattle.solve_cli.specs.Seen.{Seen, says, text_named}
-use Rattle.solve_cli.specs.Commands.{Stage, formula_of, second_text, second_started, proof_created, asked_to}
+use Rattle.solve_cli.specs.Commands.{Stage, formula_of, second_text, proof_created, asked_to}
 use Rattle.solve_cli.specs.Proofs.{IsWholeProof, IsProofBefore}
 use Rattle.solve_cli.specs.Happens.{IfNamed, IsFormula, Early, Judged, LateDue, Due, end_stage, Works, Runs}
 use Rattle.solve_cli.specs.Causes.{OfFormula, OnProof, IsFormulaRefused, IsPastLimit, IsOverLimit, IsProofRefused, IsLogRefused, IsAnswerRefused, IsOfSolve, IsVerified, IsElaborated, IsModelRight}

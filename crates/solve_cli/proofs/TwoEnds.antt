@@ -1,9 +1,9 @@
 -- Reading a slot and printing on the Proof port leave each other alone.
-use Rattle.std.proofs.Common.{◌≡◌, refl, sym, ap, ◌∙◌, subst, ℕ, ◌+◌, ◌-◌, Bool, true, false, nat_lt, List, [], ◌++◌, length, take, Some}
+use Rattle.std.proofs.Common.{◌≡◌, refl, sym, ap, ◌∙◌, subst, ◌+◌, ◌-◌, Bool, true, false, nat_lt, List, [], ◌++◌, length, take, Some}
 use Rattle.cx_desk.specs.declared.desk.Slot.{Slot}
 use Rattle.cx_desk.specs.declared.desk.Port.TheVariants.{Proof}
 use Rattle.cx_desk.specs.Gave.{Gave, nothing}
-use Rattle.cx_desk.specs.Outside.{Bytes, Given, Outside, given_in, started_in}
+use Rattle.cx_desk.specs.Outside.{Bytes, Given, Outside, given_in}
 use Rattle.cx_desk.specs.Calls.{gained}
 use Rattle.cx_desk.specs.SlotBytes.{BytesState, taken_by}
 use Rattle.cx_texts.specs.Grammar.{Grammar}

@@ -1,4 +1,4 @@
--- One command behind another: what `solve` logged is elaborated, and what `elab` wrote is verified.
+-- One command after another: what `solve` logged is elaborated, and what `elab` wrote is verified.
 use Rattle.std.proofs.Common.{◌≡◌, ◌<◌, ◌⊎◌, ℕ, List, length, Option, Some, IfSome, inl, inr, refl, ap, sym, subst, ◌∙◌}
 use Rattle.cx_base.specs.Problem.{Problem}
 use Rattle.cx_texts.specs.FormulaText.{Reads}
@@ -7,7 +7,6 @@ use Rattle.cx_judgements.specs.LogTexts.{LogRight, LogJudgedAs}
 use Rattle.cx_judgements.specs.ProofTexts.{Accepted, ProofJudgedAs}
 use Rattle.cx_judgements.proofs.OneJudgement.{one_proof_judgement, one_log_judgement}
 use Rattle.cx_desk.specs.declared.desk.Slot.TheVariants as slot
-use Rattle.cx_desk.specs.declared.desk.Port.TheVariants as port
 use Rattle.cx_desk.specs.Outside.{Bytes, Files, Written, Outside}
 use Rattle.cx_desk.specs.Agreeing.{MayHave}
 use Rattle.cx_words.specs.Words.{Asks}
@@ -47,7 +46,7 @@ IsStopped s = (s ≡ status.ReadFault) ⊎ ((s ≡ status.WriteFault) ⊎ (s ≡
 abbrev EndsAsDue : Plan → ℕ → Files → Status → Type 0
 EndsAsDue p limit files s = (e : Ending) × (s ≡ status_of_ending e) × Due p limit files e
 
-of_told : (P : Files → Type 0) (w : Option Files) (files : Files) → w ≡ Some files → IfSome w P → P files
+pub of_told : (P : Files → Type 0) (w : Option Files) (files : Files) → w ≡ Some files → IfSome w P → P files
 of_told P w files e h = subst (λ (x : Option Files). IfSome x P) e h
 
 ends_or_stops : (words : List Bytes) (limit : ℕ) (files : Files) (s : Status) (written : Written) (p : Plan) → ToldRun words limit files s written → Asks words p
@@ -133,7 +132,7 @@ either : (limit : ℕ) (first second : Bytes) (s : Status) (p : Plan) (files : F
 either limit first second s p files due (inl e) = inr (stopped limit first second s e)
 either limit first second s p files due (inr e) = conclude limit first second s (status_of_ending e.0) e.1 (due e.0 e.2)
 
--- the log is what stands on the Proof port
+-- the log is what is on the Proof port
 log_is : (name log_name log answer : Bytes) (old new : Seen) (written : Written) → new ≡ solved name (Some log_name) log answer old → new.written ≡ written → written.proof ≡ log
 log_is name log_name log answer old new written done left = sym (ap (λ (w : Written). w.proof) left) ∙ ap proof_in done
 

@@ -1,5 +1,5 @@
 -- From the steps of a command to what it does.
-use Rattle.std.proofs.Common.{true, false, ◌≡◌, ◌<◌, ◌≤◌, ℕ, [], length, take, Option, Some, None, IfSome, IsSome, Result, Ok, Err, inl, inr, refl, ap, sym, subst, ◌∙◌, append-nil}
+use Rattle.std.proofs.Common.{true, ◌≡◌, ◌<◌, ◌≤◌, ℕ, [], length, take, Option, Some, None, IfSome, IsSome, Result, Ok, Err, inl, inr, refl, ap, sym, subst, ◌∙◌, append-nil}
 use Rattle.std.proofs.lemmas.Option.{IfSome_then}
 use Rattle.cx_base.specs.Assumptions.{clashes}
 use Rattle.cx_base.specs.Problem.{Problem}
@@ -7,7 +7,6 @@ use Rattle.conflict_learn.proofs.ChainOfResolutions.{by_cases}
 use Rattle.cx_texts.specs.FormulaText.{FirstOffence}
 use Rattle.cx_semantics.specs.Tables.{first_tables}
 use Rattle.cx_texts.specs.declared.offence.Offence.{Offence}
-use Rattle.cx_texts.specs.declared.offence.Offence.TheVariants as offence
 use Rattle.cx_desk.specs.declared.desk.Slot.{Slot}
 use Rattle.cx_desk.specs.declared.desk.Slot.TheVariants as slot
 use Rattle.cx_desk.specs.declared.desk.Port.{Port}
@@ -24,7 +23,7 @@ use Rattle.solve_cli.specs.declared.ending.Ending.TheVariants as ending
 use Rattle.solve_cli.specs.declared.ending.Outcome.{Outcome}
 use Rattle.solve_cli.specs.declared.ending.Outcome.TheVariants as outcome
 use Rattle.solve_cli.specs.Endings.{answer_text}
-use Rattle.solve_cli.specs.Seen.{Seen, seen, asks, asks_proof, creates, says, append_to, ReadFault, WriteFault, MessageFault, text_named}
+use Rattle.solve_cli.specs.Seen.{Seen, seen, asks, asks_proof, says, append_to, ReadFault, WriteFault, MessageFault, text_named}
 use Rattle.solve_cli.specs.Commands.{formula_of, second_of, proof_of, Stage, formula_started, second_started, proof_created, starts, gives_file, asked_to, text_of, second_text}
 use Rattle.solve_cli.specs.Happens.{is_early, end_stage, IfNamed, FormulaRead, IsFormula, FormulaIn, Judged, IsOf, Gains, SoFar, Reaches, Ends, Stops, MayWrite, Works, PutsMessage}
 use Rattle.solve_cli.specs.Proofs.{IsRightSoFar}
@@ -119,7 +118,7 @@ early_gains (plan.Trim n q o) limit files (ending.Trimmed core) h = cc
 early_gains (plan.Blast n o) limit files (ending.Blasted variables clauses) h = cc
 early_gains p limit files e h = refl
 
--- nothing is a front of a proof
+-- the empty text is a prefix of a proof
 none_so_far : (f : Problem) → IsRightSoFar f []
 none_so_far f = record { steps = []; right = by_cases (clashes f.constraints) (λ c. inr (inl (c, refl))) (λ apart. inl (apart, (first_tables f, refl))); rest = []; front = refl }
 
@@ -215,7 +214,7 @@ formula_read p name limit old f named h = IfSome_then old.files h (λ files r. r
 pub formula_in : (p : Plan) (limit : ℕ) (old : Seen) (f : Problem) → IfSome old.files (λ files. IsFormula p limit files f) → FormulaIn p limit old
 formula_in p limit old f h = IfSome_then old.files h (λ files r. (f, r))
 
--- ---- the calls behind it
+-- ---- the calls after it
 
 -- the second slot was not started
 pub start_failed : (p : Plan) (name : Bytes) (limit : ℕ) (old mid : Seen) (f : Problem) (o : Outcome) (new : Seen) → second_of p ≡ Some name
@@ -292,7 +291,7 @@ loaded p name limit old f text mid new named is read h = record {
 
 -- ---- the answer
 
--- an ending whose answer was written, or a front of it
+-- an ending whose answer was written, or a prefix of it
 pub answered : (p : Plan) (limit : ℕ) (old : Seen) (e : Ending) (before : Seen) (o : Outcome) (new : Seen)
     → Ends p limit old e before → PutsAnswer e before o new → Works p limit old o new
 answered p limit old e before (outcome.Ended d) new ends h = (
@@ -325,7 +324,7 @@ left_gains n l q limit files f (ending.Elaborated k) proof read left = (f, read,
 left_gains n l q limit files f (ending.NotElaborated k c) proof read left = (f, read, left)
 left_gains n l q limit files f e proof read left = absurd left
 
--- a second text that was judged: its ending, and what stands before the answer
+-- a second text that was judged: its ending, and what there is before the answer
 pub judged_ends : (p : Plan) (limit : ℕ) (old : Seen) (f : Problem) (mid : Seen) (e : Ending) (proof : Bytes) → mid ≡ asked_to proof_created p old
     → IfSome old.files (λ files. IsFormula p limit files f) → IsOf p e → end_stage e ≡ proof_created
     → IfSome old.files (λ files. (length (second_text p files) ≤ limit) × Judged e p f (second_text p files))
@@ -354,13 +353,13 @@ module _ {p : Plan} {limit : ℕ} {old : Seen} {f : Problem} {text : Bytes} {mid
       judged_ends p limit old f mid e proof h.asked h.is_formula (judged_own e p f text judged) (judged_late e p name f text named judged)
       (IfSome_then old.files h.is_second (λ files t. subst (λ (x : Bytes). (length x ≤ limit) × Judged e p f x) t (h.fits, judged))) gains
 
-  -- the same with nothing on the Proof port, and the answer
+  -- what they come to with nothing on the Proof port, and the answer
   pub concluded : {name : Bytes} (e : Ending) (o : Outcome) (new : Seen) → second_of p ≡ Some name → Judged e p f text → ((files : Files) → Gains p limit files e []) → PutsAnswer e mid o new
       → Works p limit old o new
   concluded e o new named judged gains answers =
       answered p limit old e mid o new (subst (Ends p limit old e) (sym (bare mid)) (ends e [] named judged (all_files old.files gains))) answers
 
-  -- want of memory for the judgement
+  -- out of memory for the judgement
   pub wanted : Stops p limit old mid
   wanted = stopped proof_created p limit old mid reached h.asked
 
@@ -414,7 +413,7 @@ module _ (n l q : Bytes) (limit : ℕ) (old : Seen) (f : Problem) (mid : Seen) (
     at_is = ap (says port.Proof proof) is;
   }
 
-  -- the log is too long; what stands on the Proof port are right steps
+  -- the log is too long; the steps on the Proof port are right
   log_too_long : (proof : Bytes) → IfSome mid.files (λ files. (limit < length (text_named l files)) × IsRightSoFar f proof) → Ends (plan.Elab n l q) limit old (ending.TooLong slot.Second) (says port.Proof proof mid)
   log_too_long proof h = record {
     own = refl;

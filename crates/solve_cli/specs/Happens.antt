@@ -1,5 +1,5 @@
 -- What a command may do: which ending is due for its files, and which outcome may come in its place.
-use Rattle.std.specs.Prelude.{◌≡◌, ◌<◌, ◌≤◌, ℕ, Bool, true, false, List, [], ◌++◌, length, take, if◌then◌else◌, Option, Some, None, IfSome, IsSome, IsTrue, ⊤, ◌⊎◌}
+use Rattle.std.specs.Prelude.{◌≡◌, ◌<◌, ◌≤◌, ℕ, Bool, true, false, List, [], ◌++◌, length, take, Option, Some, None, IfSome, IsSome, IsTrue, ⊤, ◌⊎◌}
 use Rattle.cx_base.specs.Problem.{Problem, Meets, Unmet, clauses_of, parities_of}
 use Rattle.cx_base.specs.declared.steps.ProofStep.{ProofStep}
 use Rattle.cnfx_reader.specs.PrintedFormula.{printed_formula}
@@ -76,7 +76,7 @@ refusal_of (wrong.Missing v) = refusal.Missing v
 refusal_of (wrong.Twice v) = refusal.Twice v
 refusal_of (wrong.Unmet n) = refusal.Unmet n
 
--- The formula's clauses and those that stand for its parities: so many variables and clauses. No constraint passes the limit of variables.
+-- The formula's clauses and those that stand for its parities: this many variables and clauses. No constraint passes the limit of variables.
 pub record AreOfBlasted (f : Problem) (variables clauses : ℕ) : Type 0 where
   pub variables_are : variables ≡ (blasted f).variables
   pub clauses_are : clauses ≡ length (clauses_of (blasted f).constraints)
@@ -253,7 +253,7 @@ Works p limit old outcome.WriteFault new = AnswerFails p limit old new ⊎ (Crea
 Works p limit old outcome.Memory new = Stops p limit old new
 Works p limit old outcome.Usage new = ⊥
 
--- The same from the words. Want of memory may come while the words are read.
+-- What happened, by the words. Memory may run out while they are read.
 abbrev pub WorksFor : List Bytes → ℕ → Seen → Outcome → Seen → Type 0
 WorksFor words limit old outcome.Usage new = Refuses words × (new ≡ old)
 WorksFor words limit old outcome.Memory new = (new ≡ old) ⊎ ((p : Plan) × Asks words p × Works p limit old outcome.Memory new)

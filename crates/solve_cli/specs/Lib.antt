@@ -17,3 +17,5 @@ pub mod Causes
 pub mod Derived
 pub mod Run
 pub mod WholeWay
+pub mod TwoRuns
+pub mod NoPlan

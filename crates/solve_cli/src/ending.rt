@@ -6,7 +6,7 @@ use cx_base::{IdList, IntList, Values};
 use cx_desk::Slot;
 use cx_semantics::Cause;
 use cx_texts::Offence;
-use cx_words::Kind;
+use cx_words::InstanceKind;
 use gf2_space::Space;
 
 /// Why printed values are refused: the first cause in this order.
@@ -28,7 +28,7 @@ pub enum WrongAnswer {
 #[derive(Clone, Copy, Drop)]
 pub struct Instance {
     /// Whether the planted values meet it, or none do.
-    pub kind: Kind,
+    pub kind: InstanceKind,
     /// The number of its planted variables.
     pub size: u32,
     /// The seed of its words.
@@ -84,7 +84,7 @@ pub enum Ending {
     Satisfiable(Values),
     /// No values meet the formula. Where it has an assumption constraint, these assumed literals fail, as integers: no values meet its clauses and its parities with them.
     Unsatisfiable(Option<IntList>),
-    /// So many conflicts were counted, as many as the search may count.
+    /// This many conflicts were counted, as many as the search may count.
     Unknown(u64),
     /// This was shown of the planted instance.
     Demonstrated(Instance, Shown),
@@ -116,7 +116,7 @@ pub enum Outcome {
     ReadFault,
     /// A write failed.
     WriteFault,
-    /// Memory was wanted.
+    /// Memory ran out.
     Memory,
 }
 
@@ -134,7 +134,7 @@ pub enum Status {
     ReadFault,
     /// 5: a write failed.
     WriteFault,
-    /// 6: memory was wanted.
+    /// 6: out of memory.
     OutOfMemory,
     /// 7: the proof is refused.
     ProofRefused,

@@ -17,7 +17,10 @@ mod proof_on_desk;
 mod solve;
 mod trim;
 
-pub use cx_words::{Kind, Name, Plan, PlanRefusal, plan};
+pub use cx_words::{InstanceKind, Name, Plan, PlanRefusal, plan};
 pub use ending::{Core, Ending, Instance, Outcome, Shown, Status, WrongAnswer};
-pub use laws::{one_ending_is_due, refusals_of_formulas_are_due, refutations_are_verified};
+pub use laws::{
+    files_decide, one_ending_is_due, refusals_of_formulas_are_due, refutations_are_verified,
+    runs_agree, usage_is_for_no_plan,
+};
 pub use program::{run, run_within};

@@ -12,7 +12,7 @@ use cx_base::IntList;
 use cx_desk::{Desk, Failed, Port, Slot, put_all, put_pieces};
 use cx_semantics::Cause;
 use cx_texts::Offence;
-use cx_words::Kind;
+use cx_words::InstanceKind;
 use gf2_space::{Space, put_space};
 use itoa::Buffer;
 use model_out::put_answer;
@@ -121,7 +121,7 @@ fn put_wrong<D: Desk>(desk: &mut D, wrong: WrongAnswer) -> Result<(), Failed>
     }
 }
 
-/// The lines of a search that counted so many conflicts.
+/// The lines of a search that counted this many conflicts.
 fn put_unknown<D: Desk>(desk: &mut D, conflicts: u64) -> Result<(), Failed>
     ensures { PutsAll port.Answer (joined (codes "c conflicts " ∷ decimal conflicts ∷ codes "\ns UNKNOWN\n" ∷ [])) (D.outside desk.old) result (D.outside desk.new) }
 {
@@ -135,12 +135,12 @@ fn put_unknown<D: Desk>(desk: &mut D, conflicts: u64) -> Result<(), Failed>
 }
 
 /// The word for a kind of instance.
-fn kind_word(kind: Kind) -> &'static [u8]
+fn kind_word(kind: InstanceKind) -> &'static [u8]
     ensures { result.now ≡ kind_word kind }
 {
     match kind {
-        Kind::Even => b"even",
-        Kind::Odd => b"odd",
+        InstanceKind::Even => b"even",
+        InstanceKind::Odd => b"odd",
     }
 }
 

@@ -21,7 +21,7 @@ use crate::solve::{begin_search, search, search_on};
 use crate::trim::trim_proof;
 use crate::{Ending, Outcome, Status};
 use cx_desk::{Desk, Failed, Port};
-use cx_words::{Kind, Name, Plan, PlanRefusal, plan};
+use cx_words::{InstanceKind, Name, Plan, PlanRefusal, plan};
 use inst_gen::planted;
 use log_text::{ListLog, put_log};
 use std::alloc::{AllocError, Global};
@@ -165,7 +165,7 @@ fn solve<D: Desk>(
 
 /// `demo`: solves a planted instance, and shows that the answer is so. The log is written whole before
 /// its steps are elaborated, and the lines are written after all work.
-fn demo<D: Desk>(alloc: Global, desk: &mut D, kind: Kind, size: u32, seed: u64) -> Outcome
+fn demo<D: Desk>(alloc: Global, desk: &mut D, kind: InstanceKind, size: u32, seed: u64) -> Outcome
     requires low { 4 ≤ size }
     requires high { size ≤ 2000 }
     ensures { (limit : ℕ) → Acts limit (D.outside desk.old) (D.outside desk.new) (λ w. Works (plan.Demo kind size seed) limit (seen w (D.outside desk.old)) result (seen w (D.outside desk.new))) }

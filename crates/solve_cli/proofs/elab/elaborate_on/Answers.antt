@@ -1,15 +1,14 @@
-use Rattle.std.proofs.Common.{◌≡◌, Bool, true, false, cond, subst, sym, ap, ◌∙◌, refl, rules, IfSome, length, ◌<◌}
+use Rattle.std.proofs.Common.{◌≡◌, Bool, true, false, cond, subst, ap, ◌∙◌, refl, rules, length, ◌<◌}
 use Rattle.std.proofs.lemmas.Option.{IfSome_then}
-use Rattle.cx_desk.specs.declared.desk.Slot.{Slot}
 use Rattle.cx_desk.specs.declared.desk.Slot.TheVariants.{Second}
 use Rattle.cx_desk.specs.Outside.{Bytes, Outside}
 use Rattle.cx_texts.specs.LogText.{log_steps, LogReads}
 use Rattle.step_text.specs.Slots.{SlotState, SlotLeaves, is_too_long}
-use Rattle.proof_text.specs.Told.{steps_told, TornOn, Goes}
-use Rattle.solve_cli.specs.Seen.{seen, text_named}
+use Rattle.proof_text.specs.Told.{steps_told, TornOn}
+use Rattle.solve_cli.specs.Seen.{seen}
 use Rattle.solve_cli.specs.Steps.{Acts}
-use Rattle.solve_cli.specs.TwoEnds.{read_by, ReadsAndPrints}
-use Rattle.solve_cli.specs.SlotTexts.{HasRead, ElaboratedAs, first_state}
+use Rattle.solve_cli.specs.TwoEnds.{ReadsAndPrints}
+use Rattle.solve_cli.specs.SlotTexts.{HasRead, ElaboratedAs}
 use Rattle.solve_cli.proofs.Gaining.{settled, whole_port, has_read_and_printed}
 use Rattle.solve_cli.proofs.SlotTexts.{acts_by_text, whole_text, is_long}
 use Rattle.solve_cli.proofs.elab.elaborate_on.Goals as goal

@@ -1,4 +1,4 @@
-use Rattle.std.proofs.Common.{ap, sym, subst, ◌∙◌, Result, Ok, Err, IfOk, IfErr}
+use Rattle.std.proofs.Common.{ap, sym, subst, ◌∙◌, Result, Err, IfOk, IfErr}
 use Rattle.std.proofs.lemmas.Result.{err_from_is_err_and}
 use Rattle.cx_desk.specs.declared.desk.Slot.TheVariants.{Second}
 use Rattle.cx_desk.specs.Outside.{Bytes}

@@ -1,4 +1,4 @@
-use Rattle.std.proofs.Common.{IfOk, Result, sym, subst}
+use Rattle.std.proofs.Common.{IfOk, Result, subst}
 use Rattle.solve_cli.specs.declared.ending.Ending.{Ending}
 use Rattle.solve_cli.specs.declared.ending.Outcome.{Outcome}
 use Rattle.solve_cli.specs.Solving.{ComesTo}
