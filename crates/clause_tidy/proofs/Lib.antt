@@ -24,3 +24,12 @@ pub mod TidiedLaws
 pub mod TakingLaws
 pub mod DoneLaws
 pub mod AnswerLaws
+pub mod ShrinkLaws
+pub mod Shrinkings
+pub mod ListingLaws
+pub mod SignatureLaws
+pub mod Tallies
+pub mod MarkLaws
+pub mod BearLaws
+pub mod LookLaws
+pub mod RoomLaws

@@ -11,3 +11,10 @@ pub mod Pairs
 pub mod Tautologies
 pub mod Taking
 pub mod Done
+pub mod Shrinking
+pub mod Listing
+pub mod Signatures
+pub mod Marks
+pub mod Indexes
+pub mod Looks
+pub mod Rooms

@@ -1,10 +1,11 @@
 //! The changes that tidying makes, each told to the log: a clause goes.
-ghost use Rattle.std.specs.Prelude.{◌≡◌, false, ◌≢◌, ◌<◌, ℕ, [], None, IsTrue, OnOk, slice_set};
+ghost use Rattle.std.specs.Prelude.{◌≡◌, false, ◌≢◌, ◌<◌, ℕ, [], None, IsTrue, OnOk, length, slice_set};
 ghost use Rattle.cx_base.specs.Problem.{Problem};
 ghost use Rattle.cx_semantics.specs.Chain.{is_inside};
 ghost use Rattle.clause_arena.specs.Clauses.{IsLive, literals_at, id_at};
 ghost use Rattle.clause_tidy.specs.Agreeing.{IsStepId};
 ghost use Rattle.clause_tidy.specs.Answers.{MayGo, TidiesOn};
+ghost use Rattle.clause_tidy.specs.Shrinking.{Shrinks, ShrinksOnce};
 ghost use Rattle.clause_tidy.specs.Tidying.{Tidies};
 ghost use Rattle.clause_tidy.specs.Weights.{weight};
 
@@ -51,6 +52,8 @@ fn keep_for(arena: &mut Arena, part: ClauseRef, clause: ClauseRef)
     ensures id { id_at arena.new clause ≡ id_at arena.old clause }
     ensures may_go { MayGo arena.new clause }
     ensures weight { weight arena.new ≡ weight arena.old }
+    ensures shrinks { Shrinks arena.old arena.new }
+    ensures references { length arena.new.clauses ≡ length arena.old.clauses }
 {
     if !arena.learned(clause) {
         arena.keep(part);
@@ -72,6 +75,7 @@ pub(crate) fn subsume<L: Sink<Item = LogEvent>>(
     requires id { IsStepId (id_at arena.old clause) }
     requires going { L.has_failed log.old ≡ false }
     ensures less { OnOk result (weight arena.new < weight arena.old) }
+    ensures shrinks { OnOk result (ShrinksOnce arena.old arena.new) }
     ensures tidies { (formula : Problem) (spare : ℕ) → TidiesOn L.Sink formula spare arena.old log.old result (λ _. Tidies formula spare arena.old arena.new) log.new }
 {
     keep_for(arena, part, clause);

@@ -5,6 +5,7 @@ ghost use Rattle.clause_arena.specs.Clauses.{IsLive, literals_at, id_at};
 ghost use Rattle.tidy_rules.specs.Relations.{strengthens_at, bears_on};
 ghost use Rattle.clause_tidy.specs.Agreeing.{IsStepId, AreProper};
 ghost use Rattle.clause_tidy.specs.Answers.{TidiesOn, MendsTo, HasNoTautology};
+ghost use Rattle.clause_tidy.specs.Shrinking.{ShrinksOnce};
 ghost use Rattle.clause_tidy.specs.Weights.{weight};
 
 use crate::changes::subsume;
@@ -38,6 +39,7 @@ fn strengthen<L: Sink<Item = LogEvent>>(
     requires none { HasNoTautology arena.old }
     requires going { L.has_failed log.old ≡ false }
     ensures less { IfOk result (λ ended. IsNone ended → weight arena.new < weight arena.old) }
+    ensures shrinks { IfOk result (λ ended. IsNone ended → ShrinksOnce arena.old arena.new) }
     ensures tidies { TidiesOn L.Sink formula.now spare arena.old log.old result (MendsTo formula.now spare arena.old arena.new) log.new }
 {
     let rest = match without(alloc, arena.lits(clause), lit.negate()) {
@@ -77,6 +79,7 @@ pub(crate) fn mend<L: Sink<Item = LogEvent>>(
     requires none { HasNoTautology arena.old }
     requires going { L.has_failed log.old ≡ false }
     ensures less { IfOk result (λ ended. IsNone ended → weight arena.new < weight arena.old) }
+    ensures shrinks { IfOk result (λ ended. IsNone ended → ShrinksOnce arena.old arena.new) }
     ensures tidies { TidiesOn L.Sink formula.now spare arena.old log.old result (MendsTo formula.now spare arena.old arena.new) log.new }
 {
     if lies_inside(arena.lits(part), arena.lits(clause)) {

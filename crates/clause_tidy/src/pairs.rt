@@ -1,58 +1,23 @@
-//! The plain look for two clauses of which one lies inside the other, or strengthens it.
-ghost use Rattle.std.specs.Prelude.{◌-◌, ◌^◌, ◌<◌, ◌↔◌, IsTrue, MatchOption};
+//! Two clauses of which one lies inside the other, or strengthens it.
+ghost use Rattle.std.specs.Prelude.{◌↔◌, IsTrue};
 ghost use Rattle.clause_arena.specs.Clauses.{IsLive};
-ghost use Rattle.clause_tidy.specs.Pairs.{Bears, NoneBearsOn, NoneBears};
+ghost use Rattle.clause_tidy.specs.Pairs.{Bears};
 
 use clause_arena::Arena;
 use cx_base::ClauseRef;
 use tidy_rules::relations::bears_on;
 
 /// Whether a reference is that of another live clause that lies inside this one, or strengthens it.
-fn bears(arena: &Arena, part: ClauseRef, clause: ClauseRef) -> bool
+pub(crate) fn bears(arena: &Arena, part: ClauseRef, clause: ClauseRef) -> bool
     requires { IsLive arena.now clause }
     ensures { IsTrue result ↔ Bears arena.now part clause }
 {
     part != clause && arena.is_live(part) && bears_on(arena.lits(part), arena.lits(clause))
 }
 
-/// A clause that lies inside this one, or strengthens it.
-fn bearing_on(arena: &Arena, clause: ClauseRef) -> Option<ClauseRef>
-    requires { IsLive arena.now clause }
-    ensures { MatchOption result (NoneBearsOn arena.now clause) (λ part. Bears arena.now part clause) }
+/// Whether a clause is live, and the part bears on it.
+pub(crate) fn is_whole(arena: &Arena, part: ClauseRef, clause: ClauseRef) -> bool
+    ensures { IsTrue result ↔ (IsLive arena.now clause × Bears arena.now part clause) }
 {
-    for place in 0..arena.len() {
-        let part = ClauseRef::new(place as u32);
-        if bears(arena, part, clause) {
-            return Some(part);
-        }
-    }
-    None
-}
-
-/// The first clause of a place that is live and has such a one, with that.
-fn pair_at(arena: &Arena, place: usize) -> Option<(ClauseRef, ClauseRef)>
-    requires { place < 2 ^ 31 - 1 }
-    ensures { MatchOption result (IsLive arena.now place → NoneBearsOn arena.now place) (λ p. IsLive arena.now p.1 × Bears arena.now p.0 p.1) }
-{
-    let clause = ClauseRef::new(place as u32);
-    if !arena.is_live(clause) {
-        return None;
-    }
-    match bearing_on(arena, clause) {
-        Some(part) => Some((part, clause)),
-        None => None,
-    }
-}
-
-/// Two clauses, of which the first lies inside the second or strengthens it.
-pub(crate) fn untidy_pair(arena: &Arena) -> Option<(ClauseRef, ClauseRef)>
-    ensures { MatchOption result (NoneBears arena.now) (λ p. IsLive arena.now p.1 × Bears arena.now p.0 p.1) }
-{
-    for place in 0..arena.len() {
-        let found = pair_at(arena, place);
-        if found.is_some() {
-            return found;
-        }
-    }
-    None
+    arena.is_live(clause) && bears(arena, part, clause)
 }

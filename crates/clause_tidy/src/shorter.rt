@@ -6,6 +6,7 @@ ghost use Rattle.clause_arena.specs.Clauses.{IsLive, literals_at, id_at};
 ghost use Rattle.clause_tidy.specs.Agreeing.{IsStepId, AreProper};
 ghost use Rattle.clause_tidy.specs.Answers.{TidiesOn, IsEnded};
 ghost use Rattle.clause_tidy.specs.Shortened.{Shortens};
+ghost use Rattle.clause_tidy.specs.Shrinking.{ShrinksOnce};
 ghost use Rattle.clause_tidy.specs.Tidying.{Tidies};
 ghost use Rattle.clause_tidy.specs.Weights.{weight};
 
@@ -34,6 +35,7 @@ pub(crate) fn shorten<L: Sink<Item = LogEvent>>(
     requires short { length rest.now < length (literals_at arena.old clause) }
     requires going { L.has_failed log.old ≡ false }
     ensures less { OnOk result (weight arena.new < weight arena.old) }
+    ensures shrinks { OnOk result (ShrinksOnce arena.old arena.new) }
     ensures tidies { (formula : Problem) → AreProper formula arena.old → IsFalse (is_ending formula.constraints rest.now) → TidiesOn L.Sink formula spare arena.old log.old result (λ _. Tidies formula spare arena.old arena.new) log.new }
 {
     let id = arena.id(clause);

@@ -6,20 +6,53 @@ ghost use Rattle.step_text.specs.Sinks.{SinkFaultsAs, HasFailedAs, OnFailed};
 ghost use Rattle.tidy_rules.specs.declared.part.TidyPart.{TidyPart};
 ghost use Rattle.tidy_rules.specs.Parts.{IsPart, Tidied, lits_in};
 ghost use Rattle.clause_tidy.specs.Agreeing.{IsStepId, AreProper};
-ghost use Rattle.clause_tidy.specs.Answers.{EndsFrom, IsRightFrom, IsTold, IsTornAfter, MendsTo, TidiesOn};
+ghost use Rattle.clause_tidy.specs.Answers.{EndsFrom, HasNoTautology, IsRightFrom, IsTold, IsTornAfter, MendsTo, TidiesOn};
 ghost use Rattle.clause_tidy.specs.Derived.{IsDerived};
 ghost use Rattle.clause_tidy.specs.Done.{AgreesAgain, IfDone, IfEnded, IsCoveredBy, TidiesTo, TakesUnits};
+ghost use Rattle.clause_tidy.specs.Pairs.{NoneBears};
 ghost use Rattle.clause_tidy.specs.Taking.{IsWide};
 ghost use Rattle.clause_tidy.specs.Tidying.{IsClauseOf};
 
 use crate::outcome::TidyOf;
-use crate::settling::settle;
 use crate::tautologies::drop_tautologies;
 use crate::units::take_units;
+use crate::{plain_settling, settling};
 use clause_arena::Arena;
 use cx_base::{Formula, IdList, LitList, LogEvent};
 use std::alloc::{AllocError, Global};
 use step_text::{Sink, SinkFault};
+
+/// How two clauses are sought of which one bears on the other.
+#[derive(Clone, Copy)]
+pub(crate) enum Search {
+    /// Each clause waits in a queue to be looked at.
+    Queue,
+    /// Each is looked at beside each other.
+    Pairs,
+}
+
+/// Mends two clauses, one of which bears on the other, as long as there are two.
+fn settle<L: Sink<Item = LogEvent>>(
+    alloc: Global,
+    formula: &Formula,
+    arena: &mut Arena,
+    log: &mut L,
+    spare: u64,
+    search: Search,
+) -> Result<Option<LitList>, SinkFault>
+    requires proper { AreProper formula.now arena.old }
+    requires spare { IsStepId spare }
+    requires none { HasNoTautology arena.old }
+    requires going { L.has_failed log.old ≡ false }
+    ensures free { IfOk result (λ ended. IsNone ended → HasNoTautology arena.new) }
+    ensures bears { IfOk result (λ ended. IsNone ended → NoneBears arena.new) }
+    ensures tidies { TidiesOn L.Sink formula.now spare arena.old log.old result (MendsTo formula.now spare arena.old arena.new) log.new }
+{
+    match search {
+        Search::Queue => settling::settle(alloc, formula, arena, log, spare),
+        Search::Pairs => plain_settling::settle(alloc, formula, arena, log, spare),
+    }
+}
 
 /// Makes the clauses of an arena tidy, where it has units too, and tells the log each change. Where an ending clause is left, the log ends with it.
 fn tidy_clauses<L: Sink<Item = LogEvent>>(
@@ -28,6 +61,7 @@ fn tidy_clauses<L: Sink<Item = LogEvent>>(
     arena: &mut Arena,
     log: &mut L,
     spare: u64,
+    search: Search,
 ) -> Result<Option<LitList>, SinkFault>
     requires proper { AreProper formula.now arena.old }
     requires spare { IsStepId spare }
@@ -36,7 +70,7 @@ fn tidy_clauses<L: Sink<Item = LogEvent>>(
     ensures tidies { TidiesOn L.Sink formula.now spare arena.old log.old result (MendsTo formula.now spare arena.old arena.new) log.new }
 {
     match drop_tautologies(alloc, arena, log) {
-        Ok(()) => settle(alloc, formula, arena, log, spare),
+        Ok(()) => settle(alloc, formula, arena, log, spare, search),
         Err(fault) => Err(fault),
     }
 }
@@ -52,12 +86,13 @@ fn done(alloc: Global, arena: &mut Arena, first: usize) -> Result<TidyOf, AllocE
 }
 
 /// Makes the clauses of an arena tidy, together with the units that arise, and tells the log each change.
-fn tidy_all<L: Sink<Item = LogEvent>>(
+pub(crate) fn tidy_all<L: Sink<Item = LogEvent>>(
     alloc: Global,
     arena: &mut Arena,
     formula: &Formula,
     spare: u64,
     log: &mut L,
+    search: Search,
 ) -> Result<TidyOf, SinkFault>
     requires proper { AreProper formula.now arena.old }
     requires spare { IsStepId spare }
@@ -65,7 +100,7 @@ fn tidy_all<L: Sink<Item = LogEvent>>(
     ensures { TidiesOn L.Sink formula.now spare arena.old log.old result (TidiesTo formula.now spare arena.old arena.new) log.new }
 {
     let first = arena.len();
-    match tidy_clauses(alloc, formula, arena, log, spare) {
+    match tidy_clauses(alloc, formula, arena, log, spare, search) {
         Ok(Some(lits)) => Ok(TidyOf::Ended(lits)),
         Ok(None) => match done(alloc, arena, first) {
             Ok(outcome) => Ok(outcome),
@@ -106,5 +141,5 @@ pub fn tidy<L: Sink<Item = LogEvent>>(
     ensures failed { HasFailedAs result (L.Sink.has_failed log.old) (L.Sink.has_failed log.new) }
     ensures frame { L.Sink.keeps log.old log.new }
 {
-    tidy_all(alloc, arena, formula, spare, log)
+    tidy_all(alloc, arena, formula, spare, log, Search::Queue)
 }

@@ -4,6 +4,7 @@ use Rattle.clause_tidy.proofs.Composing.{nothing_tidied}
 use Rattle.clause_tidy.proofs.Keeping.{keeping_tidies}
 use Rattle.clause_tidy.proofs.WeightLaws.{same_kept}
 use Rattle.clause_tidy.proofs.Dropping.{may_go_then}
+use Rattle.clause_tidy.proofs.Shrinkings.{nothing_shrinks, kept_long, kept_shrinks}
 use Rattle.clause_tidy.proofs.changes.keep_for.Goals as goal
 
 pub returns-then-not-learned-clause-tidies : goal.returns-then-not-learned-clause-tidies
@@ -18,3 +19,12 @@ returns-else-not-learned-clause-tidies c = λ formula spare. nothing_tidied form
 
 pub returns-then-not-learned-clause-weight : goal.returns-then-not-learned-clause-weight
 returns-then-not-learned-clause-weight c = same_kept c.args.arena.now c.keep.new.self c.args.part c.requires.part (ap (λ (x : ArenaState). x.clauses) c.keep.ensures)
+
+pub returns-then-not-learned-clause-shrinks : goal.returns-then-not-learned-clause-shrinks
+returns-then-not-learned-clause-shrinks c = kept_shrinks c.args.arena.now c.keep.new.self c.args.part c.requires.part (ap (λ (x : ArenaState). x.clauses) c.keep.ensures)
+
+pub returns-then-not-learned-clause-references : goal.returns-then-not-learned-clause-references
+returns-then-not-learned-clause-references c = kept_long c.args.arena.now c.keep.new.self c.args.part c.requires.part (ap (λ (x : ArenaState). x.clauses) c.keep.ensures)
+
+pub returns-else-not-learned-clause-shrinks : goal.returns-else-not-learned-clause-shrinks
+returns-else-not-learned-clause-shrinks c = nothing_shrinks c.args.arena.now

@@ -3,6 +3,7 @@ use Rattle.clause_tidy.specs.Tidying.{Tidies}
 use Rattle.clause_tidy.proofs.Composing.{tidied_on}
 use Rattle.clause_tidy.proofs.Events.{no_more}
 use Rattle.clause_tidy.proofs.Tellings.{goes_on}
+use Rattle.clause_tidy.proofs.Shrinkings.{on_ok, subsumed_shrinks}
 use Rattle.clause_tidy.proofs.changes.subsume.Goals as goal
 
 pub returns-clause-tidies : goal.returns-clause-tidies
@@ -13,3 +14,7 @@ returns-clause-tidies g c = λ formula spare.
     let kept = c.keep_for.ensures.tidies formula spare in
     goes_on formula spare a b [] kept g.L.Sink (λ _. Tidies formula spare b d) (λ _. Tidies formula spare a d) c.args.log.now c.args.log.now c.drop_clause.new.log c.drop_clause.result
     (sym (no_more (g.L.Sink.items c.args.log.now))) refl refl (λ k. k) (λ _ ts t. tidied_on formula spare a b d [] ts kept t) (c.drop_clause.ensures.tidies formula spare)
+
+pub returns-clause-shrinks : goal.returns-clause-shrinks
+returns-clause-shrinks g c = on_ok c.drop_clause.result _ _
+    (λ is. subsumed_shrinks c.args.arena.now c.keep_for.new.arena c.drop_clause.new.arena c.args.clause c.keep_for.ensures.shrinks c.keep_for.ensures.references c.keep_for.ensures.live is) c.drop_clause.ensures.removed

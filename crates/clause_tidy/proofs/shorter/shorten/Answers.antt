@@ -1,12 +1,13 @@
 use Rattle.std.proofs.Common.{◌∙◌, ap, subst, ℕ, [], ◌∷◌, ◌++◌, Some, false, Ok, Err}
 use Rattle.cx_base.specs.Integers.{integers_of}
-use Rattle.clause_arena.specs.Clauses.{ArenaState}
+use Rattle.clause_arena.specs.Clauses.{ArenaState, Stored}
 use Rattle.clause_tidy.specs.Answers.{TellsSuch}
 use Rattle.clause_tidy.specs.Steps.{IsShortening}
 use Rattle.clause_tidy.specs.Tidying.{Tidies}
 use Rattle.clause_tidy.proofs.WeightLaws.{less_shorter}
 use Rattle.clause_tidy.proofs.Dropping.{no_answer}
 use Rattle.clause_tidy.proofs.ShorterTold.{still_live, grown_then_removed, nothing_on, shorter_told}
+use Rattle.clause_tidy.proofs.Shrinkings.{shortened_shrinks}
 use Rattle.clause_tidy.proofs.shorter.shorten.Goals as goal
 
 pub remove-requires : goal.remove-requires
@@ -34,3 +35,9 @@ pub returns-in-Ok-tell_shortening-clause-less : goal.returns-in-Ok-tell_shorteni
 returns-in-Ok-tell_shortening-clause-less g c =
     less_shorter c.args.arena.now c.remove.new.self c.args.clause (record { literals = c.args.rest.now; id = c.id-id.result; lbd = c.lbd-lbd.result; learned = false }) c.requires.clause c.requires.short
     (grown_then_removed c.args.arena.now c.add.new.self c.remove.new.self c.args.clause (record { literals = c.args.rest.now; id = c.id-id.result; lbd = c.lbd-lbd.result; learned = false }) c.requires.clause c.in-Ok.ensures.added (ap (λ (x : ArenaState). x.clauses) c.remove.ensures))
+
+pub returns-in-Ok-tell_shortening-clause-shrinks : goal.returns-in-Ok-tell_shortening-clause-shrinks
+returns-in-Ok-tell_shortening-clause-shrinks g c =
+    let new : Stored = record { literals = c.args.rest.now; id = c.id-id.result; lbd = c.lbd-lbd.result; learned = false } in
+    shortened_shrinks c.args.arena.now c.remove.new.self c.args.by c.args.clause c.requires.clause new c.requires.shorter
+    (grown_then_removed c.args.arena.now c.add.new.self c.remove.new.self c.args.clause new c.requires.clause c.in-Ok.ensures.added (ap (λ (x : ArenaState). x.clauses) c.remove.ensures))

@@ -1,7 +1,7 @@
 use Rattle.std.proofs.Common.{ℕ, ◌<◌}
 use Rattle.clause_arena.specs.Clauses.{IsLive}
 use Rattle.clause_tidy.specs.Pairs.{NoneBearsOn}
-use Rattle.clause_tidy.proofs.pairs.untidy_pair.Given as goal
+use Rattle.clause_tidy.proofs.plain_pairs.untidy_pair.Given as goal
 
 -- nothing bears on the first ones
 abbrev pub invariant-loop-place : goal.invariant-loop-place

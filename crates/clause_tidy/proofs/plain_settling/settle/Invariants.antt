@@ -1,0 +1,15 @@
+use Rattle.clause_tidy.specs.Agreeing.{AreProper}
+use Rattle.clause_tidy.specs.Answers.{HasNoTautology}
+use Rattle.clause_tidy.specs.Weights.{weight}
+use Rattle.clause_tidy.proofs.Stages.{IsStage}
+use Rattle.clause_tidy.proofs.plain_settling.settle.Given as goal
+
+abbrev pub invariant-loop-pair : goal.invariant-loop-pair
+invariant-loop-pair g l = record {
+  stage : IsStage g.L.Sink l.formula l.spare l.fn.arena l.fn.log l.arena l.log;
+  free : HasNoTautology l.arena;
+  proper : AreProper l.formula l.arena;
+}
+
+abbrev pub decreases-loop-pair : goal.decreases-loop-pair
+decreases-loop-pair g l = weight l.arena

@@ -1,0 +1,17 @@
+-- A look at a clause as a part.
+use Rattle.std.specs.Prelude.{ℕ, List, Contains}
+use Rattle.clause_arena.specs.Clauses.{ArenaState, IsLive, literals_at}
+use Rattle.clause_tidy.specs.declared.look.Look.{Look}
+use Rattle.clause_tidy.specs.Marks.{AreMarksOf, HasSoMany}
+use Rattle.clause_tidy.specs.Pairs.{Bears}
+use Rattle.clause_tidy.specs.Signatures.{IsSignature}
+
+-- the part's literals are marked and counted, and it has this signature
+pub record IsLookAt (a : ArenaState) (look : Look) : Type 0 where
+  pub marks : AreMarksOf look.marks.items (literals_at a look.part)
+  pub many : HasSoMany (literals_at a look.part) look.many
+  pub signature : IsSignature look.signature (literals_at a look.part)
+
+-- the list has each of these clauses on which the part bears
+abbrev pub HasWholesOf : ArenaState → ℕ → (ℕ → Type 0) → List ℕ → Type 0
+HasWholesOf a p Among found = (q : ℕ) → Among q → IsLive a q → Bears a p q → Contains found q

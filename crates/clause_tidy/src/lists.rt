@@ -1,0 +1,102 @@
+//! For each variable a list of clauses.
+ghost use Rattle.std.specs.Prelude.{◌≡◌, ◌+◌, ◌<◌, ◌++◌, ◌∷◌, [], length, set, IfOk, OnOk};
+ghost use Rattle.clause_tidy.specs.Indexes.{AreKnown};
+ghost use Rattle.clause_tidy.specs.Listing.{list_of, IsListed, KeepsEntries};
+
+use cx_base::{ClauseRef, Lit, Var};
+use std::alloc::{AllocError, Global};
+use std::marker::Model;
+
+/// A list of clauses.
+#[derive(Drop)]
+struct Listed {
+    clauses: Vec<ClauseRef>,
+}
+
+impl Model for Listed {
+    ghost use Rattle.std.specs.Prelude.{List, ℕ};
+
+    ghost Value = { List ℕ };
+
+    ghost view = { λ a. a.clauses.items };
+}
+
+impl Listed {
+    fn new(alloc: Global) -> Listed
+        ensures { result ≡ [] }
+    {
+        Listed {
+            clauses: Vec::new(alloc),
+        }
+    }
+
+    fn push(&mut self, clause: ClauseRef) -> Result<(), AllocError>
+        ensures { OnOk result (self.new ≡ self.old ++ clause ∷ []) }
+    {
+        self.clauses.push(clause)?;
+        Ok(())
+    }
+
+    fn as_slice(&self) -> &[ClauseRef]
+        ensures { result.now ≡ self.now }
+    {
+        &self.clauses
+    }
+}
+
+/// For each variable a list of clauses.
+#[derive(Drop)]
+pub(crate) struct Lists {
+    lists: Vec<Listed>,
+}
+
+impl Model for Lists {
+    ghost use Rattle.std.specs.Prelude.{List, ℕ};
+
+    ghost Value = { List (List ℕ) };
+
+    ghost view = { λ a. a.lists.items };
+}
+
+impl Lists {
+    /// An empty list for each variable up to this number.
+    pub(crate) fn make(alloc: Global, vars: u32) -> Result<Lists, AllocError>
+        ensures { IfOk result (λ lists. length lists ≡ vars + 1) }
+    {
+        let count = vars as usize + 1;
+        let mut lists = Vec::with_capacity(alloc, count)?;
+        for _ in 0..count {
+            lists.push(Listed::new(alloc))?;
+        }
+        Ok(Lists { lists })
+    }
+
+    /// The list of a variable.
+    pub(crate) fn of(&self, variable: Var) -> &[ClauseRef]
+        requires { variable < length self.now }
+        ensures { result.now ≡ list_of self.now variable }
+    {
+        self.lists[variable.number() as usize].as_slice()
+    }
+
+    /// Puts a clause into the list of a variable.
+    fn put(&mut self, variable: Var, clause: ClauseRef) -> Result<(), AllocError>
+        requires { variable < length self.old }
+        ensures { OnOk result (self.new ≡ set self.old variable (list_of self.old variable ++ clause ∷ [])) }
+    {
+        self.lists[variable.number() as usize].push(clause)
+    }
+}
+
+/// Puts a clause into the list of each of its variables.
+pub(crate) fn enter(lists: &mut Lists, lits: &[Lit], clause: ClauseRef) -> Result<(), AllocError>
+    requires { AreKnown lists.old lits.now }
+    ensures count { OnOk result (length lists.new ≡ length lists.old) }
+    ensures kept { OnOk result (KeepsEntries lists.old lists.new) }
+    ensures listed { OnOk result (IsListed lists.new lits.now clause) }
+{
+    for lit in lits {
+        lists.put(lit.var(), clause)?;
+    }
+    Ok(())
+}

@@ -1,0 +1,195 @@
+//! The look for clauses of which one bears on another: each clause is looked at as a part, the shortest ones first.
+ghost use Rattle.std.specs.Prelude.{◌≡◌, ◌+◌, ◌*◌, ◌^◌, ◌<◌, ◌≤◌, ℕ, [], length, IfOk, OnOk, MatchOption};
+ghost use Rattle.cx_base.specs.Problem.{AreWithin};
+ghost use Rattle.clause_arena.specs.Clauses.{IsLive, literals_at};
+ghost use Rattle.clause_tidy.specs.Indexes.{IsIndexed, AreKnown};
+ghost use Rattle.clause_tidy.specs.Marks.{AreClear};
+ghost use Rattle.clause_tidy.specs.Pairs.{Bears, NoneBears};
+ghost use Rattle.clause_tidy.specs.Rooms.{IsWaiting, IsRoomFor, IsRoomBefore};
+
+use crate::index::Index;
+use crate::look::Look;
+use crate::pairs::is_whole;
+use clause_arena::Arena;
+use cx_base::ClauseRef;
+use std::alloc::{AllocError, Global};
+
+/// A clause that waits to be looked at, and its length.
+#[derive(Clone, Copy, Drop)]
+pub(crate) struct Queued {
+    pub len: usize,
+    pub clause: ClauseRef,
+}
+
+/// What a tidying keeps beside the arena.
+#[derive(Drop)]
+pub(crate) struct Room {
+    pub index: Index,
+    pub look: Look,
+    /// The clauses that are looked at as parts, from this place on.
+    pub queue: Vec<Queued>,
+    pub place: usize,
+    /// What the last look has found and was not yet seen to be tidy.
+    pub found: Vec<ClauseRef>,
+}
+
+/// Puts a live clause at the end of the queue.
+fn wait(queue: &mut Vec<Queued>, arena: &Arena, clause: ClauseRef) -> Result<(), AllocError>
+    ensures kept { OnOk result ((place p : ℕ) → IsWaiting queue.old.items place p → IsWaiting queue.new.items place p) }
+    ensures waits { OnOk result ((place : ℕ) → IsLive arena.now clause → place ≤ length queue.old.items → IsWaiting queue.new.items place clause) }
+    ensures longer { OnOk result (length queue.old.items ≤ length queue.new.items) }
+{
+    if !arena.is_live(clause) {
+        return Ok(());
+    }
+    let len = arena.lits(clause).len();
+    queue.push(Queued { len, clause })?;
+    Ok(())
+}
+
+/// Puts the shortest ones first.
+fn sort(queue: &mut Vec<Queued>)
+    ensures { (p : ℕ) → IsWaiting queue.old.items 0 p → IsWaiting queue.new.items 0 p }
+{
+    queue.sort_unstable_by_key(|queued| queued.len);
+}
+
+impl Room {
+    /// Room for no clause, and for variables up to this number.
+    fn empty(alloc: Global, vars: u32) -> Result<Room, AllocError>
+        requires { vars < 2 ^ 31 }
+        ensures lists { IfOk result (λ room. length room.index.lists ≡ vars + 1) }
+        ensures signatures { IfOk result (λ room. room.index.signatures.items ≡ []) }
+        ensures marks { IfOk result (λ room. length room.look.marks.items ≡ 2 * length room.index.lists) }
+        ensures clear { IfOk result (λ room. AreClear room.look.marks.items) }
+        ensures place { IfOk result (λ room. room.place ≡ 0) }
+        ensures found { IfOk result (λ room. room.found.items ≡ []) }
+    {
+        let index = Index::make(alloc, vars)?;
+        let look = Look::make(alloc, vars)?;
+        Ok(Room {
+            index,
+            look,
+            queue: Vec::new(alloc),
+            place: 0,
+            found: Vec::new(alloc),
+        })
+    }
+
+    /// Takes in the clause of the next reference, which waits then.
+    fn enter(&mut self, arena: &Arena, clause: ClauseRef) -> Result<(), AllocError>
+        requires indexed { IsIndexed arena.now clause self.old.index.lists self.old.index.signatures.items }
+        requires known { IsLive arena.now clause → AreKnown self.old.index.lists (literals_at arena.now clause) }
+        ensures indexed { OnOk result (IsIndexed arena.now (clause + 1) self.new.index.lists self.new.index.signatures.items) }
+        ensures lists { OnOk result (length self.new.index.lists ≡ length self.old.index.lists) }
+        ensures kept { OnOk result ((place p : ℕ) → IsWaiting self.old.queue.items place p → IsWaiting self.new.queue.items place p) }
+        ensures waits { OnOk result ((place : ℕ) → IsLive arena.now clause → place ≤ length self.old.queue.items → IsWaiting self.new.queue.items place clause) }
+        ensures longer { OnOk result (length self.old.queue.items ≤ length self.new.queue.items) }
+        ensures look { self.new.look ≡ self.old.look }
+        ensures place { self.new.place ≡ self.old.place }
+        ensures found { self.new.found ≡ self.old.found }
+    {
+        self.index.enter(arena, clause)?;
+        wait(&mut self.queue, arena, clause)
+    }
+
+    /// Takes in all clauses of an arena.
+    fn fill(&mut self, arena: &Arena) -> Result<(), AllocError>
+        requires known { (r : ℕ) → IsLive arena.now r → AreKnown self.old.index.lists (literals_at arena.now r) }
+        requires none { self.old.index.signatures.items ≡ [] }
+        ensures indexed { OnOk result (IsIndexed arena.now (length arena.now.clauses) self.new.index.lists self.new.index.signatures.items) }
+        ensures lists { OnOk result (length self.new.index.lists ≡ length self.old.index.lists) }
+        ensures waits { OnOk result ((p : ℕ) → IsLive arena.now p → IsWaiting self.new.queue.items 0 p) }
+        ensures look { OnOk result (self.new.look ≡ self.old.look) }
+        ensures place { OnOk result (self.new.place ≡ self.old.place) }
+        ensures found { OnOk result (self.new.found ≡ self.old.found) }
+    {
+        for place in 0..arena.len() {
+            self.enter(arena, ClauseRef::new(place as u32))?;
+        }
+        Ok(())
+    }
+
+    /// Room for the clauses of an arena, whose variables go up to this number. Each waits to be looked at, the shortest ones first.
+    pub(crate) fn make(alloc: Global, vars: u32, arena: &Arena) -> Result<Room, AllocError>
+        requires few { vars < 2 ^ 31 }
+        requires variables { (r : ℕ) → IsLive arena.now r → AreWithin vars (literals_at arena.now r) }
+        ensures { IfOk result (IsRoomFor arena.now) }
+    {
+        let mut room = Room::empty(alloc, vars)?;
+        room.fill(arena)?;
+        sort(&mut room.queue);
+        Ok(room)
+    }
+
+    /// Looks at the clause that waits next.
+    fn look_on(&mut self, arena: &Arena) -> Result<(), AllocError>
+        requires room { IsRoomFor arena.now self.old }
+        requires more { self.old.place < length self.old.queue.items }
+        requires none { self.old.found.items ≡ [] }
+        ensures room { OnOk result (IsRoomFor arena.now self.new) }
+        ensures place { OnOk result (self.new.place ≡ self.old.place + 1) }
+        ensures queue { OnOk result (self.new.queue ≡ self.old.queue) }
+    {
+        let part = self.queue[self.place].clause;
+        self.place += 1;
+        if !arena.is_live(part) {
+            return Ok(());
+        }
+        self.look.look(&self.index, arena, part, &mut self.found)
+    }
+
+    /// The clause that was looked at, and one that was found on which it bears. Those found that it does not are let go.
+    fn next_found(&mut self, arena: &Arena) -> Option<(ClauseRef, ClauseRef)>
+        requires room { IsRoomFor arena.now self.old }
+        ensures room { IsRoomFor arena.now self.new }
+        ensures pair { MatchOption result (self.new.found.items ≡ []) (λ p. IsLive arena.now p.1 × Bears arena.now p.0 p.1) }
+        ensures place { self.new.place ≡ self.old.place }
+        ensures queue { self.new.queue ≡ self.old.queue }
+    {
+        while !self.found.is_empty() {
+            let clause = self.found[self.found.len() - 1];
+            if is_whole(arena, self.look.part, clause) {
+                return Some((self.look.part, clause));
+            }
+            self.found.pop();
+        }
+        None
+    }
+
+    /// Two clauses, of which the first lies inside the second or strengthens it.
+    pub(crate) fn next(
+        &mut self,
+        arena: &Arena,
+    ) -> Result<Option<(ClauseRef, ClauseRef)>, AllocError>
+        requires { IsRoomFor arena.now self.old }
+        ensures room { OnOk result (IsRoomFor arena.now self.new) }
+        ensures pair { IfOk result (λ found. MatchOption found (NoneBears arena.now) (λ p. IsLive arena.now p.1 × Bears arena.now p.0 p.1)) }
+    {
+        loop {
+            if let Some(pair) = self.next_found(arena) {
+                return Ok(Some(pair));
+            }
+            if self.place == self.queue.len() {
+                return Ok(None);
+            }
+            self.look_on(arena)?;
+        }
+    }
+
+    /// Takes in what is left of a clause that lost a literal: one more reference, or none. It waits to be looked at, and the
+    /// clause that is looked at may bear on it too.
+    pub(crate) fn admit(&mut self, arena: &Arena, before: usize) -> Result<(), AllocError>
+        requires room { IsRoomBefore arena.now before self.old }
+        requires few { length arena.now.clauses ≤ before + 1 }
+        ensures { OnOk result (IsRoomFor arena.now self.new) }
+    {
+        if before == arena.len() {
+            return Ok(());
+        }
+        let clause = ClauseRef::new(before as u32);
+        self.enter(arena, clause)?;
+        self.found.push(clause)?;
+        Ok(())
+    }
+}
