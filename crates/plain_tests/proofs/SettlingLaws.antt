@@ -1,5 +1,5 @@
 -- What the looks of the plain program find, in the words of the definition.
-use Rattle.std.proofs.Common.{◌≡◌, ◌≢◌, refl, sym, ap, ◌∙◌, subst, ℕ, zero, suc, ◌+◌, ◌-◌, ◌<◌, ◌≤◌, Bool, true, false, cond, not, ◌&&◌, ◌||◌, List, [], ◌∷◌, ◌++◌, length, get_or, arith, true≢false, ◌⊎◌, inl, inr}
+use Rattle.std.proofs.Common.{◌≡◌, refl, sym, ap, ◌∙◌, subst, ℕ, zero, suc, ◌+◌, ◌-◌, ◌<◌, ◌≤◌, Bool, true, false, cond, not, ◌&&◌, ◌||◌, List, [], ◌∷◌, ◌++◌, length, get_or, arith, true≢false, ◌⊎◌, inl, inr}
 use Rattle.std.specs.Prelude.{MatchBool, MatchOption, Option, Some, None}
 use Rattle.std.specs.List.{list_any, list_all, AllByRecursion, Contains}
 use Rattle.std.proofs.lemmas.Bool.{cases_Bool, or_cases, or_parts, or_left, or_right, and_parts, and_from, not-true, false_from_ne_true}
@@ -10,7 +10,7 @@ use Rattle.cx_base.specs.Problem.{Problem, AreWithin, IsWithinVariables, clauses
 use Rattle.cx_base.specs.declared.constraint.Constraint.{Constraint}
 use Rattle.cx_base.specs.declared.constraint.Constraint.TheVariants.{Clause, Parity, Assume}
 use Rattle.cx_base.proofs.Elements.{in_head, in_tail, all_push}
-use Rattle.cx_base.proofs.LiteralLaws.{are_one, same_literal-itself}
+use Rattle.cx_base.proofs.LiteralLaws.{are_one}
 use Rattle.cx_base.proofs.Odd.{parity_met-cons}
 use Rattle.cx_semantics.specs.Chain.{has_literal, is_inside, left, one, count_left}
 use Rattle.cx_semantics.specs.Forced.{Solves, Consistent, Forced}

@@ -1,68 +1,26 @@
--- All clauses of a parity stand in a formula just where the plain look finds them.
-use Rattle.std.proofs.Common.{◌≡◌, ◌≢◌, refl, sym, ap, ◌∙◌, subst, ℕ, ◌+◌, ◌<◌, ◌≤◌, Bool, true, false, cond, not, ◌&&◌, ◌||◌, nat_eq, List, [], ◌∷◌, ◌++◌, length, map, arith, true≢false, ◌⊎◌, inl, inr}
+-- A formula has all clauses of a parity just where the plain look finds them.
+use Rattle.std.proofs.Common.{◌≡◌, ◌≢◌, refl, sym, ap, ◌∙◌, subst, ℕ, ◌+◌, ◌<◌, ◌≤◌, Bool, true, false, not, ◌&&◌, List, [], ◌∷◌, ◌++◌, length, arith, true≢false, inl, inr}
 use Rattle.std.specs.Prelude.{MatchBool, IfOk, Result, Ok, Err}
 use Rattle.std.specs.List.{list_any}
-use Rattle.std.specs.Ordering.{nat_cmp}
-use Rattle.std.specs.Cmp.{nat_cmp_total}
 use Rattle.std.specs.FinSet as set
-use Rattle.std.proofs.lemmas.Bool.{cases_Bool, or_cases, or_parts, or_left, or_right, and_parts, eq-eqb, eqb-true}
+use Rattle.std.proofs.lemmas.Bool.{cases_Bool, or_cases, or_parts, or_left, or_right, and_parts}
 use Rattle.std.proofs.lemmas.List.{append_assoc, append-nil}
 use Rattle.cx_base.specs.Literals.{Literal, differ, positive_of, negative_of}
-use Rattle.cx_base.specs.Problem.{Problem, AreWithin, clauses_of}
+use Rattle.cx_base.specs.Problem.{Problem, clauses_of}
 use Rattle.cx_base.specs.Parity.{HasOneOfEach}
 use Rattle.cx_base.specs.declared.literal.TheConstants.{MAX_VARIABLE}
-use Rattle.cx_semantics.specs.Chain.{has_literal, same_literals, HaveSame}
-use Rattle.cx_semantics.specs.Recovered.{Recovered, excluded_sum}
-use Rattle.cx_semantics.proofs.RecoveredLaws.{Distinct, len-distinct}
+use Rattle.cx_semantics.specs.Chain.{same_literals, HaveSame}
+use Rattle.cx_semantics.specs.Recovered.{excluded_sum}
+use Rattle.cx_semantics.proofs.RecoveredLaws.{len-distinct}
 use Rattle.cx_semantics.proofs.SameSets.{HaveSame-by_test}
 use Rattle.cx_semantics.proofs.Widths.{variables, length-variables}
 use Rattle.parity_engine.specs.Written.{AreRising}
 use Rattle.parity_engine.proofs.Rising.{columns_rise}
-use Rattle.xor_recover.proofs.FindLaws.{InOrder, in_order, excluded_is, same_rising, same_variables, distinct_rising, set_of}
+use Rattle.xor_recover.proofs.FindLaws.{distinct_rising, in_order, excluded_is, set_of, one_of_each, ordered_variables}
 use Rattle.xor_recover.proofs.Numbers.{test_same}
 use Rattle.plain_tests.specs.Standing.{stands, all_stand, IsRecovered}
 
--- ---- one literal of each variable: within the range, and different
-
-high_rising : (k : ℕ) (vs : List ℕ) (y : ℕ) → AreRising k MAX_VARIABLE vs → list_any (λ z. nat_eq z y) vs ≡ true → (k ≤ y) × (y ≤ MAX_VARIABLE)
-high_rising k [] y h m = absurd (true≢false (sym m))
-high_rising k (v ∷ vs) y h m = elim (or_cases (nat_eq v y) (list_any (λ z. nat_eq z y) vs) m) [
-  | inl e ↦ (let q = eqb-true v y e in let low = h.0 in let high = h.1 in (omega arith, omega arith))
-  | inr later ↦ (let rest = high_rising (v + 1) vs y h.2 later in let low = h.0 in let low' = rest.0 in (omega arith, rest.1))
-]
-
-within_set : (vs : List ℕ) (lits : List Literal) → AreRising 1 MAX_VARIABLE vs → ((y : ℕ) → list_any (λ z. nat_eq z y) (variables lits) ≡ true → list_any (λ z. nat_eq z y) vs ≡ true) → AreWithin MAX_VARIABLE lits
-within_set vs [] rise h = tt
-within_set vs (l ∷ lits) rise h = (
-  high_rising 1 vs l.variable rise (h l.variable (ap (λ b. b || list_any (λ z. nat_eq z l.variable) (variables lits)) (eq-eqb l.variable l.variable refl))),
-  within_set vs lits rise (λ y m. h y (or_right (nat_eq l.variable y) _ m)),
-)
-
-len_more : (x : ℕ) (xs : List ℕ) → set.len (set_of (x ∷ xs)) ≡ cond (list_any (λ y. nat_eq y x) xs) (set.len (set_of xs)) (set.len (set_of xs) + 1)
-len_more x xs = set.len-insert nat_cmp_total (set_of xs) x ∙ ap (λ b. cond b (set.len (set_of xs)) (set.len (set_of xs) + 1)) (set.contains-from_list_nat xs x)
-
-few_members : (xs : List ℕ) → set.len (set_of xs) ≤ length xs
-few_members [] = (let e = set.len-empty nat_cmp in omega arith)
-few_members (x ∷ xs) =
-    let rest = few_members xs in
-    elim (cases_Bool (list_any (λ y. nat_eq y x) xs)) [
-      | inl e ↦ (let n = len_more x xs ∙ ap (λ b. cond b (set.len (set_of xs)) (set.len (set_of xs) + 1)) e in omega arith)
-      | inr e ↦ (let n = len_more x xs ∙ ap (λ b. cond b (set.len (set_of xs)) (set.len (set_of xs) + 1)) e in omega arith)
-    ]
-
-distinct_from_len : (xs : List ℕ) → length xs ≡ set.len (set_of xs) → Distinct xs
-distinct_from_len [] e = tt
-distinct_from_len (x ∷ xs) e =
-    let rest = few_members xs in
-    elim (cases_Bool (list_any (λ y. nat_eq y x) xs)) [
-      | inl h ↦ absurd (let n = len_more x xs ∙ ap (λ b. cond b (set.len (set_of xs)) (set.len (set_of xs) + 1)) h in omega arith)
-      | inr h ↦ (h, distinct_from_len xs (let n = len_more x xs ∙ ap (λ b. cond b (set.len (set_of xs)) (set.len (set_of xs) + 1)) h in omega arith))
-    ]
-
-both : (a b : Bool) → (a ≡ true → b ≡ true) → (b ≡ true → a ≡ true) → a ≡ b
-both true b f g = sym (f refl)
-both false true f g = g refl
-both false false f g = refl
+-- ---- one literal of each variable, in order
 
 -- the literals in the order of the variables
 record Ordered (vs : List ℕ) (lits : List Literal) : Type 0 where
@@ -73,15 +31,11 @@ record Ordered (vs : List ℕ) (lits : List Literal) : Type 0 where
 
 ordered : (vs : List ℕ) (lits : List Literal) → AreRising 1 MAX_VARIABLE vs → HasOneOfEach (set_of vs) lits → Ordered vs lits
 ordered vs lits rise each =
-    let members : (y : ℕ) → list_any (λ z. nat_eq z y) (variables lits) ≡ list_any (λ z. nat_eq z y) vs =
-    (λ y. sym (set.contains-from_list_nat (variables lits) y) ∙ ap (λ (s : set.FinSet nat_cmp). set.contains s y) each.same ∙ set.contains-from_list_nat vs y) in
-    let distinct = distinct_from_len (variables lits) (length-variables lits ∙ each.once ∙ ap set.len (sym each.same)) in
-    let order = in_order lits (within_set vs lits rise (λ y m. sym (members y) ∙ m)) distinct in
+    let one = one_of_each vs lits rise each in
+    let order = in_order lits one.within one.distinct in
     record {
       r = order.0;
-      vars = same_rising (variables order.0) vs order.1.rises rise (λ y. both _ _
-          (λ h. sym (members y) ∙ same_variables order.0 lits order.1.same y h)
-          (λ h. same_variables lits order.0 (λ q. sym (order.1.same q)) y (members y ∙ h)));
+      vars = ordered_variables vs lits order.0 rise one order.1;
       same = order.1.same;
       sum = excluded_is order.0 ∙ order.1.sum ∙ sym (excluded_is lits);
     }

@@ -1,5 +1,5 @@
 -- What propagation finds in a formula before any decision, by a look at each clause and at all values.
-use Rattle.std.specs.Prelude.{◌≡◌, ◌⊎◌, ℕ, zero, suc, Bool, true, false, not, ◌&&◌, ◌||◌, List, [], ◌∷◌, ◌++◌, IsTrue}
+use Rattle.std.specs.Prelude.{◌⊎◌, ℕ, zero, suc, Bool, true, false, not, ◌&&◌, ◌||◌, List, [], ◌∷◌, ◌++◌, IsTrue}
 use Rattle.std.specs.List.{list_any, list_all}
 use Rattle.cx_base.specs.Literals.{Literal, negate, same_literal, literal_true, positive_of, negative_of}
 use Rattle.cx_base.specs.Problem.{Problem, clauses_of, parity_met}
@@ -15,7 +15,7 @@ leaves_only known l clause = (has_literal clause l && not (has_literal known (ne
 abbrev pub are_solved : List (List Literal) → List Literal → List Bool → Bool
 are_solved parities part values = list_all (literal_true values) part && list_all (parity_met values) parities
 
--- so many more values can follow these
+-- this many more values can follow these
 abbrev pub some_solve : List (List Literal) → List Literal → List Bool → ℕ → Bool
 some_solve parities part values zero = are_solved parities part values
 some_solve parities part values (suc n) = some_solve parities part (values ++ false ∷ []) n || some_solve parities part (values ++ true ∷ []) n

@@ -1,5 +1,5 @@
--- Parities that stand in a formula as clauses, by a look for each clause.
-use Rattle.std.specs.Prelude.{ℕ, ◌+◌, Bool, not, ◌&&◌, ◌||◌, List, [], ◌∷◌, ◌++◌}
+-- Parities that a formula has as clauses, by a look for each clause.
+use Rattle.std.specs.Prelude.{ℕ, Bool, not, ◌&&◌, ◌||◌, List, [], ◌∷◌, ◌++◌}
 use Rattle.std.specs.List.{list_any}
 use Rattle.std.specs.FinSet as set
 use Rattle.cx_base.specs.Literals.{Literal, differ, positive_of, negative_of}
@@ -13,7 +13,7 @@ use Rattle.parity_engine.specs.Written.{AreRising}
 abbrev pub stands : Problem → List Literal → Bool
 stands formula lits = list_any (same_literals lits) (clauses_of formula.constraints)
 
--- the literals followed by one of each variable in order exclude an assignment with the right sum, or stand in the formula
+-- the literals followed by one of each variable in order exclude an assignment with the right sum, or are a clause of the formula
 abbrev pub all_stand : Problem → Bool → List Literal → List ℕ → Bool
 all_stand formula right chosen [] = not (differ right (excluded_sum chosen)) || stands formula chosen
 all_stand formula right chosen (x ∷ xs) = all_stand formula right (chosen ++ positive_of x ∷ []) xs && all_stand formula right (chosen ++ negative_of x ∷ []) xs

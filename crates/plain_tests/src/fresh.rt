@@ -50,7 +50,11 @@ fn first_ready(live: &Live, ids: &[u64], known: &LiteralSet) -> Option<Ready>
 }
 
 /// All that unit propagation over the live clauses gives from the negations of these literals; none where some clause is falsified.
-fn saturate(alloc: Global, live: &Live, lits: &[Lit]) -> Result<Option<LiteralSet>, AllocError>
+pub(crate) fn saturate(
+    alloc: Global,
+    live: &Live,
+    lits: &[Lit],
+) -> Result<Option<LiteralSet>, AllocError>
     ensures { IfOk result (λ o. MatchOption o (Clash live.now.clauses (negations lits.now)) (IsSaturation live.now.clauses (negations lits.now))) }
 {
     let mut known = LiteralSet::new(alloc);

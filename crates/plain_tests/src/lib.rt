@@ -2,8 +2,16 @@
 #![tactic(auto)]
 
 mod constraints;
+mod covering;
+mod fitting;
 pub mod fresh;
+pub mod judged;
+mod log_rules;
+pub mod marked;
+mod originals;
 pub mod recovered;
 pub mod settled;
+mod tables;
+mod told;
 #[cfg(test)]
 mod worked;

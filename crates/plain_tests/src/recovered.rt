@@ -1,4 +1,4 @@
-//! Whether a parity stands in a formula as clauses, by a look for each of them.
+//! Whether a formula has a parity as clauses, by a look for each of them.
 ghost use Rattle.std.specs.Prelude.{◌≡◌, ◌++◌, ◌∷◌, [], IfOk, MatchBool};
 ghost use Rattle.cx_base.specs.Literals.{differ};
 ghost use Rattle.cx_base.specs.declared.literal.TheConstants.{MAX_VARIABLE};
@@ -20,7 +20,7 @@ fn have_same(lits: &[Lit], others: &[Lit]) -> bool
 }
 
 /// Whether a clause of the formula has just these literals.
-fn stands(formula: &Formula, lits: &[Lit]) -> bool
+pub(crate) fn stands(formula: &Formula, lits: &[Lit]) -> bool
     ensures { result ≡ stands formula.now lits.now }
 {
     for place in 0..formula.clause_count() {
@@ -51,7 +51,7 @@ pub(crate) fn with(alloc: Global, lits: &[Lit], lit: Lit) -> Result<Vec<Lit>, Al
     Ok(more)
 }
 
-/// Whether each clause of these literals and one of each variable stands in the formula, where it excludes a wrong sum.
+/// Whether the formula has each clause of these literals and one of each variable that excludes a wrong sum.
 fn all_stand(
     alloc: Global,
     formula: &Formula,
@@ -90,7 +90,7 @@ fn are_rising(least: u32, vars: &[Var]) -> bool
 }
 
 /// Whether the variables rise and their parity with this right side is recovered from the formula: whether each clause that
-/// excludes an assignment of two to six variables with the wrong sum stands in it.
+/// excludes an assignment of two to six variables with the wrong sum is in it.
 pub fn is_recovered(
     alloc: Global,
     formula: &Formula,

@@ -1,4 +1,4 @@
-use Rattle.std.proofs.Common.{◌≡◌, ◌∙◌, ap, List, [], Bool, rules, arith}
+use Rattle.std.proofs.Common.{◌≡◌, ◌∙◌, ap, List, [], rules, arith}
 use Rattle.cx_base.specs.Literals.{Literal}
 use Rattle.cx_base.specs.declared.literal.TheConstants.{MAX_VARIABLE}
 use Rattle.parity_engine.specs.Written.{AreRising}

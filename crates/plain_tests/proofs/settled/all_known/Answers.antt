@@ -1,9 +1,6 @@
-use Rattle.std.proofs.Common.{◌≡◌, ◌<◌, ◌∙◌, sym, ap, subst, length, List, false}
-use Rattle.std.specs.Prelude.{MatchOption}
-use Rattle.std.specs.List.{list_any}
+use Rattle.std.proofs.Common.{◌<◌, ◌∙◌, sym, ap, subst, length, List}
 use Rattle.cx_base.specs.Literals.{Literal}
 use Rattle.cx_semantics.specs.Fresh.{others}
-use Rattle.plain_tests.specs.Settling.{follows, IsNext}
 use Rattle.plain_tests.proofs.SettlingLaws.{next_of, none_of, stands_first, stands_on, stands_last, fewer}
 use Rattle.plain_tests.proofs.settled.all_known.Goals as goal
 
