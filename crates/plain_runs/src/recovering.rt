@@ -4,7 +4,7 @@ use cx_base::{Formula, Lit, Var};
 use plain_tests::recovered::is_recovered;
 use std::alloc::{AllocError, Global};
 use std::test::Fail;
-use xor_recover::{Found, recover};
+use xor_recover::{FoundParity, recover};
 
 /// The most variables of a drawn formula.
 const MOST: u32 = 10;
@@ -39,7 +39,7 @@ fn right_of(lits: &[Lit]) -> bool {
 }
 
 /// Whether one of the finds is the parity of these variables with this right side.
-fn is_found(finds: &[Found], mask: u32, right: bool) -> bool {
+fn is_found(finds: &[FoundParity], mask: u32, right: bool) -> bool {
     for find in finds {
         let lits = find.parity.as_slice();
         if mask_of(lits) == mask && right_of(lits) == right {
@@ -54,7 +54,7 @@ fn put_other(
     alloc: Global,
     others: &mut String,
     formula: &Formula,
-    finds: &[Found],
+    finds: &[FoundParity],
     mask: u32,
 ) -> Result<usize, AllocError> {
     let vars = vars_of(alloc, mask)?;

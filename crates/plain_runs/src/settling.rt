@@ -1,28 +1,16 @@
 //! Searches over drawn formulas that may stop at the first conflict: a settled formula is decided with no mark in the log, and one
 //! that is refuted so is settled.
-ghost use Rattle.std.specs.Prelude.{◌≤◌, ◌^◌};
-
 use crate::drawing::tight_formula;
-use cdcl_core::{Outcome, solve_core};
+use crate::searching::{SearchAnswer, searched};
 use cx_base::{Formula, LogEvent};
-use gauss_incremental::Incremental;
-use log_text::ListLog;
 use plain_tests::settled::is_settled;
 use std::alloc::{AllocError, Global};
 use std::test::Fail;
 use xor_recover::recover;
 
-/// What a search with a budget of one conflict says.
-#[derive(Clone, Copy, PartialEq, Eq, Debug, Drop)]
-enum Answer {
-    Decided,
-    Refuted,
-    Unknown,
-}
-
 /// How many formulas are settled, and how many are refuted so.
 #[derive(Clone, Copy, Drop)]
-struct Counts {
+struct SettledCounts {
     settled: u64,
     refuted: u64,
     others: u64,
@@ -37,27 +25,20 @@ fn has_mark(events: &[LogEvent]) -> bool {
     false
 }
 
-/// What the search answers, and whether its log has a mark; none where it gives up.
-fn answered(alloc: Global, formula: &Formula) -> Result<Option<(Answer, bool)>, AllocError> {
-    if formula.len() > u32::MAX as usize {
-        return Ok(None);
+/// What a search with a budget of one conflict answers, and whether its log has a mark; none where it gives up.
+fn answered(alloc: Global, formula: &Formula) -> Result<Option<(SearchAnswer, bool)>, AllocError> {
+    match searched(alloc, formula, 1)? {
+        Some((answer, log)) => Ok(Some((answer, has_mark(log.events())))),
+        None => Ok(None),
     }
-    let mut log = ListLog::make(alloc);
-    let answer = match solve_core::<Incremental, ListLog>(alloc, formula, 1, &mut log) {
-        Ok(Outcome::Sat(_)) => Answer::Decided,
-        Ok(Outcome::Unsat { failed: _ }) => Answer::Refuted,
-        Ok(Outcome::Unknown { conflicts: _ }) => Answer::Unknown,
-        Err(_) => return Ok(None),
-    };
-    Ok(Some((answer, has_mark(log.events()))))
 }
 
 /// Whether an answer fits. Where no parity is recovered, only a settled formula is refuted.
-fn fits(settled: bool, recovers: bool, answer: Answer, marked: bool) -> bool {
+fn fits(settled: bool, recovers: bool, answer: SearchAnswer, marked: bool) -> bool {
     if settled {
-        return answer != Answer::Unknown && !marked;
+        return answer != SearchAnswer::Unknown && !marked;
     }
-    recovers || answer != Answer::Refuted
+    recovers || answer != SearchAnswer::Refuted
 }
 
 /// Writes a formula whose answer does not fit, and counts it.
@@ -65,7 +46,7 @@ fn put_other(
     alloc: Global,
     others: &mut String,
     seed: u64,
-    counts: &mut Counts,
+    counts: &mut SettledCounts,
 ) -> Result<(), AllocError> {
     let formula = tight_formula(alloc, seed, 7, 7 + seed % 10)?;
     let settled = is_settled(alloc, &formula)?;
@@ -74,7 +55,7 @@ fn put_other(
         Some((answer, marked)) if fits(settled, recovers, answer, marked) => {
             if !settled {
                 counts.others = counts.others.saturating_add(1);
-            } else if answer == Answer::Refuted {
+            } else if answer == SearchAnswer::Refuted {
                 counts.refuted = counts.refuted.saturating_add(1);
             } else {
                 counts.settled = counts.settled.saturating_add(1);
@@ -85,8 +66,8 @@ fn put_other(
     Ok(())
 }
 
-fn put_others(alloc: Global, others: &mut String, seeds: u64) -> Result<Counts, AllocError> {
-    let mut counts = Counts {
+fn put_others(alloc: Global, others: &mut String, seeds: u64) -> Result<SettledCounts, AllocError> {
+    let mut counts = SettledCounts {
         settled: 0,
         refuted: 0,
         others: 0,
