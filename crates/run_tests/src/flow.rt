@@ -1,4 +1,4 @@
-//! The commands one behind the other, each on a desk of its own.
+//! The commands one after another, each on a desk of its own.
 ghost use Rattle.std.specs.Prelude.{◌≤◌};
 
 use crate::desk::{AMPLE, Bounds, Ended, run};
@@ -25,6 +25,9 @@ const HIDDEN: &str = "1 6 7 0\n1 -6 -7 0\n-1 6 -7 0\n-1 -6 7 0\n";
 
 /// A circle of five variables, each unlike the next; the last step of it is hidden in clauses.
 const CIRCLE: &str = "p cnf 5 6\nx1 2 0\nx2 3 0\nx3 4 0\nx4 5 0\n1 5 0\n-1 -5 0\n";
+
+/// A refuted formula that uses two of its variables.
+const SQUARE_AMONG_MANY: &str = "p cnf 2000000 4\n1 2 0\n-1 2 0\n1 -2 0\n-1 -2 0\n";
 
 /// Whether the check of this proof verifies it.
 fn verifies(alloc: Global, formula: &str, proof: &[u8], bounds: Bounds) -> Result<bool, AllocError>
@@ -84,7 +87,7 @@ fn is_refuted(alloc: Global, formula: &str) -> Result<bool, AllocError> {
     proves(alloc, formula, refuted.proof(), AMPLE)
 }
 
-/// The same of a formula of two parts.
+/// As `is_refuted`, of a formula of two parts.
 fn is_refuted_with(alloc: Global, front: &str, rest: &str) -> Result<bool, AllocError> {
     let formula = format!(in alloc; "{front}{rest}")?;
     is_refuted(alloc, formula.as_str())
@@ -98,7 +101,11 @@ fn refutations_are_verified(rt: HostRuntime) -> Result<(), Fail> {
     let circle = is_refuted(alloc, CIRCLE)?;
     let odd = is_refuted_with(alloc, PLANTED, ODD)?;
     let hidden = is_refuted_with(alloc, PLANTED, HIDDEN)?;
-    assert_eq!(rt; [triangle, square, circle, odd, hidden], [true; 5]);
+    let among_many = is_refuted(alloc, SQUARE_AMONG_MANY)?;
+    assert_eq!(rt;
+        [triangle, square, circle, odd, hidden, among_many],
+        [true; 6]
+    );
     Ok(())
 }
 
