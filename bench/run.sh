@@ -17,6 +17,22 @@ version() {
     echo "$1 $(dpkg-query -W -f '${Version}' "$1")"
 }
 
+# Rows without those whose times are all below 0.02 s, which the clock hardly tells apart, unless they tell instructions or memory.
+without_short_runs() {
+    awk '
+        /instructions|bytes a variable/ { print; next }
+        {
+            rest = $0; times = longest = 0
+            while (match(rest, /[0-9]+(\.[0-9]+)? s[^a-z]/)) {
+                taken = substr(rest, RSTART, RLENGTH) + 0
+                times++
+                if (taken > longest) longest = taken
+                rest = substr(rest, RSTART + RLENGTH)
+            }
+        }
+        !times || longest >= 0.02'
+}
+
 # The longest come first. Each writes its rows into a file of its own.
 load=$(cut -d' ' -f1 /proc/loadavg)
 printf '%s\n' "${scripts[@]}" | xargs -P "$lanes" -I NAME bash -c "'$here'/*/NAME.sh > '$work/NAME.rows' || { echo 'NAME.sh failed' >&2; exit 1; }"
@@ -40,7 +56,7 @@ beside it: below 1 cxsat took less, but in the row of propagation, where above 1
 TEXT
     for script in reader check elab trim slot foreign solve families parities affine blast recover propagate memory limits rows; do
         cat "$work/$script.rows"
-    done
+    done | without_short_runs
     echo
     echo "Texts at the limits (\`bench/hostile/hostile.sh\`): $(grep -c '^as wanted' "$work/hostile.rows") tried, $(tail -n 1 "$work/hostile.rows")."
 } > "$work/results"

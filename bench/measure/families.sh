@@ -1,63 +1,80 @@
 #!/usr/bin/env bash
-# Sums of processor time and of conflicts of `cxsat solve` over ten seeds a family, beside `minisat` and `cadical` (formulas of
-# clauses alone) and `cryptominisat5`, Debian's packages. A seed whose answer is not the family's is passed over; an answer of a
-# peer that differs from ours ends the script with 1. A run that takes longer than LIMIT seconds counts as that.
-# usage: bench/measure/families.sh [SEEDS [LIMIT]]     (10, 60)
+# Formulas of twenty families, so many seeds each, solved by `cxsat solve` and by Debian's `minisat`, `cadical` and `cryptominisat5`,
+# this one as it comes and with its bounds on matrices lifted: how many are solved in LIMIT seconds, and the sum of processor
+# time, in which a run that is cut off counts as LIMIT. `minisat` and `cadical` get parities as clauses, by `cxsat blast`. Where a
+# family has one answer, other answers end the script with 1, and so does a peer's answer that differs from ours.
+# usage: bench/measure/families.sh [SEEDS [LIMIT [FAMILY..]]]     (5, 20, all)
 set -euo pipefail
 source "$(dirname "$0")/../common.sh"
-need minisat cryptominisat5 cadical /usr/bin/time
+need minisat cryptominisat5 cadical python3 /usr/bin/time
 build
-seeds=${1:-10} limit=${2:-60}
+seeds=${1:-5} limit=${2:-20}
+shift $(($# < 2 ? $# : 2))
+chosen=" $* "
+solvers=(cxsat minisat cadical cryptominisat5 'cryptominisat5, bounds lifted')
 
-# Runs a solver: its name and the seconds and conflicts that it took are added to its line of sums.
-run_one() {
-    local name=$1 taken memory status conflicts
-    case $name in
-        cxsat) read -r taken memory status <<< "$(run "$program" solve "$work/formula" --proof "$work/log" --conflicts 1000000000)"
-            conflicts=$(grep -c '^c conflict ' "$work/log" || true) ;;
-        minisat) read -r taken memory status <<< "$(run minisat "$work/formula")"
-            conflicts=$(awk '/^conflicts/ { print $3 }' "$work/answer") ;;
-        cadical) read -r taken memory status <<< "$(run cadical "$work/formula")"
-            conflicts=$(awk '/^c conflicts:/ { print $3 }' "$work/answer") ;;
-        cryptominisat5) read -r taken memory status <<< "$(run cryptominisat5 --verb 1 "$work/formula")"
-            conflicts=$(awk '/^c conflicts/ { print $4; exit }' "$work/answer") ;;
+solve() {
+    case $1 in
+        cxsat) run "$program" solve "$work/formula" --proof "$work/log" --conflicts 1000000000 ;;
+        minisat | cadical) run "$1" "$work/clauses" ;;
+        cryptominisat5) run cryptominisat5 --verb 0 "$work/formula" ;;
+        *) run cryptominisat5 --verb 0 --maxmatrixrows 100000 --maxmatrixcols 100000 --maxnummatrices 100000 "$work/formula" ;;
     esac
-    told=$status
-    [ "$wanted" = any ] || [ "$status" = "$wanted" ] || [ "$status" = 124 ] || return 0
-    echo "$name $taken ${conflicts:-0} $memory" >> "$work/sums"
 }
 
+# Solves the formula by each, and adds a line of what each took.
+solve_by_all() {
+    local solver taken memory status ours=124
+    "$program" blast "$work/formula" "$work/clauses" > "$work/answer"
+    for solver in "${solvers[@]}"; do
+        read -r taken memory status <<< "$(solve "$solver")"
+        [ "$solver" != cxsat ] || ours=$status
+        agree "$1" "$solver" "$ours" "$status"
+        case $status in
+            10 | 20) [ "$2" = any ] || [ "$2" = "$status" ] || { echo "families.sh: $1: $solver ended with $status" >&2; exit 1; } ;;
+            *) status=124 taken=$limit ;;
+        esac
+        echo "$solver;$taken;$status" >> "$work/taken"
+    done
+}
+
+# How many were solved, and the sum of seconds.
 sum() {
-    awk -v name="$1" '$1 == name { taken += $2; conflicts += $3; if ($4 > memory) memory = $4 } END { printf "%.2f %d %d", taken, conflicts, memory }' "$work/sums"
+    awk -F ';' -v name="$1" '$1 == name { taken += $2; solved += $3 != 124 } END { printf "%d in %.1f s", solved, taken }' "$work/taken"
 }
 
-# A family: its name, kind, size, the answer that counts, and the peers.
+# A family: its name in words, how it is made (a file of make/ and a kind), its size, and its answer.
 measure() {
-    local family=$1 kind=$2 size=$3 seed found=0 own peer own_told taken conflicts memory
-    wanted=$4
-    shift 4
-    : > "$work/sums"
-    for ((seed = 1; found < seeds; seed++)); do
-        awk -v kind="$kind" -v size="$size" -v seed="$seed" -f "$here/make/instance.awk" > "$work/formula"
-        run_one cxsat
-        own_told=$told
-        [ "$wanted" = any ] || [ "$own_told" = "$wanted" ] || [ "$own_told" = 124 ] || continue
-        found=$((found + 1))
-        for peer in "$@"; do
-            run_one "$peer"
-            agree "$family $size, seed $seed" "$peer" "$own_told" "$told"
-        done
+    local words=$1 maker=$2 kind=$3 size=$4 wanted=$5 seed solver beside=
+    [ "$chosen" = '  ' ] || [[ $chosen = *" $kind "* ]] || return 0
+    : > "$work/taken"
+    for ((seed = 1; seed <= seeds; seed++)); do
+        case $maker in
+            awk) awk -v kind="$kind" -v size="$size" -v seed="$seed" -f "$here/make/instance.awk" > "$work/formula" ;;
+            python) "$here/make/families.py" "$kind" "$size" "$seed" > "$work/formula" ;;
+        esac
+        solve_by_all "$words $size, seed $seed" "$wanted"
     done
-    read -r own conflicts memory <<< "$(sum cxsat)"
-    local mine="$own s, $conflicts conflicts, at most $memory MB" ours=$conflicts
-    for peer in "$@"; do
-        read -r taken conflicts memory <<< "$(sum "$peer")"
-        row 'solving, sums' "$family $size, $seeds formulas (status $wanted)" "$mine" "$peer: $taken s, $conflicts conflicts, at most $memory MB" \
-            "$(ratio "$own" "$taken"), conflicts $(ratio "$ours" "$conflicts")"
-    done
+    for solver in "${solvers[@]:1}"; do beside+="${beside:+; }$solver: $(sum "$solver")"; done
+    row 'solving, sums' "$words $size, $seeds formulas" "$(sum cxsat)" "$beside" \
+        "$(ratio "$(sum cxsat | awk '{ print $3 }')" "$(for solver in "${solvers[@]:1}"; do sum "$solver" | awk '{ print $3 }'; echo; done | sort -n | awk 'NF { print; exit }')")"
 }
 
-for size in 150 200 250; do measure 'random 3-clauses, variables:' random "$size" 20 minisat cadical cryptominisat5; done
-measure 'random 3-clauses, variables:' random 250 10 minisat cadical cryptominisat5
-for size in 200 250; do measure 'parities and clauses, variables:' mixed "$size" any cryptominisat5; done
-measure 'parities as clauses, variables:' system 200 20 minisat cadical cryptominisat5
+measure 'random 3-clauses near the threshold, variables:' awk random 200 any
+measure 'random 3-clauses near the threshold, variables:' awk random 250 any
+measure 'parities and clauses, variables:' awk mixed 250 any
+measure 'parities and clauses, variables:' awk mixed 300 any
+measure 'pigeonholes, holes:' awk holes 8 20
+measure 'parities in a chain:' awk chain 20000 10
+measure 'ladder of parities as clauses, rungs:' awk ladder 5000 20
+measure 'torus of parities, nodes a side:' python grid 60 20
+measure 'inconsistent parities as clauses, variables:' awk system 1000 20
+measure 'noisy parities, secret bits:' python noise 28 10
+measure 'hashed random clauses, variables:' python hashing 90 any
+measure 'hashed queens, queens:' python queens 12 any
+measure 'stream cipher, bits a register:' python stream 18 10
+measure 'block cipher, rounds:' python block 7 10
+measure 'factors, bits:' python factors 18 10
+measure 'multipliers compared, bits:' python multiply 7 20
+measure 'adders compared, bits:' python adders 128 20
+measure 'counters unrolled with parities, steps:' python counters 20 20
