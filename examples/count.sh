@@ -7,8 +7,10 @@
 # usage: examples/count.sh FORMULA [ROUNDS [SEED [PIVOT]]]     (5 rounds, seed 1, at most 40 solutions a cell)
 set -euo pipefail
 formula=$1 rounds=${2:-5} seed=${3:-1} pivot=${4:-40}
-top=$(cd "$(dirname "${BASH_SOURCE[0]}")/.." && pwd)
-cxsat=$top/bin/cxsat
+top=$(cd "$(dirname "$(readlink -f "${BASH_SOURCE[0]}")")/.." && pwd)
+cxsat=$top/crates/cxsat/out/cxsat
+# The launcher builds the program where it is missing or old, and takes longer than most of the calls below.
+"$top/bin/cxsat" demo even 4 1 > /dev/null
 work=$(mktemp -d)
 trap 'rm -rf "$work"' EXIT
 vars=$(awk 'NR == 1 { print $3 }' "$formula")
@@ -28,6 +30,7 @@ count_cell() {
         case $status in
             10)
                 [ "$("$cxsat" model "$work/cell" "$work/answer")" = 's MODEL RIGHT' ]
+                certified=$((certified + $(now) - begun))
                 cell=$((cell + 1))
                 awk -v vars="$vars" '$1 == "v" { for (k = 2; k <= NF; k++) if ($k && $k <= vars && -$k <= vars) printf "%d ", -$k } END { print 0 }' "$work/answer" >> "$work/cell"
                 ;;
@@ -35,10 +38,10 @@ count_cell() {
                 rm -f "$work/proof"
                 [ "$("$cxsat" elab "$work/cell" "$work/log" "$work/proof")" = 's ELABORATED' ]
                 [ "$("$cxsat" check "$work/cell" "$work/proof")" = 's VERIFIED' ]
+                certified=$((certified + $(now) - begun))
                 ;;
             *) echo "count: solve ended with $status" >&2; exit 1 ;;
         esac
-        certified=$((certified + $(now) - begun))
         [ "$status" = 10 ] || break
     done
 }
