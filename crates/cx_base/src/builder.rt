@@ -68,6 +68,8 @@ impl FormulaBuilder {
     }
 
     /// Ends the open constraint.
+    // In each of its places the kind is known, so that a clause pays nothing for assumptions.
+    #[inline(always)]
     fn end(&mut self, kind: ConstraintKind) -> Result<(), AllocError>
         ensures ok { OnOk result (self.new ≡ record { constraints = self.old.constraints ++ of_kind kind self.old.unfinished ∷ []; unfinished = [] }) }
         ensures err { OnErr result (self.new ≡ self.old) }
