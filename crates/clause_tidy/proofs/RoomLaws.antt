@@ -1,5 +1,5 @@
 -- What is due.
-use Rattle.std.specs.Prelude.{MatchOption, OnOk}
+use Rattle.std.specs.Prelude.{IsTrue, MatchOption, OnOk}
 use Rattle.std.proofs.Common.{◌≡◌, ◌≢◌, refl, sym, ap, ◌∙◌, subst, ℕ, ◌+◌, ◌-◌, Option, None, Some, Result, Ok, Err, ◌<◌, ◌≤◌, ⊎_elim, inl, inr, List, [], ◌∷◌, ◌++◌, length, get_or, arith}
 use Rattle.std.specs.List.{Contains, HoldsAt}
 use Rattle.std.specs.List.Sorted.{IsPermutation}
@@ -19,7 +19,8 @@ use Rattle.clause_tidy.specs.declared.room.Room.{Room}
 use Rattle.clause_tidy.specs.Indexes.{IsIndexed, AreKnown}
 use Rattle.clause_tidy.specs.Listing.{IsListed}
 use Rattle.clause_tidy.specs.Looks.{HasWholesOf}
-use Rattle.clause_tidy.specs.Pairs.{Bears, NoneBears}
+use Rattle.clause_tidy.specs.declared.pairs.Pair.{Pair}
+use Rattle.clause_tidy.specs.Pairs.{Bears, IsPair, AreLive, NoneBears}
 use Rattle.clause_tidy.specs.Rooms.{IsWaiting, IsDue, AreDue, IsRoomFor}
 use Rattle.clause_tidy.specs.Shrinking.{Shrinks}
 use Rattle.clause_tidy.specs.Signatures.{IsSignature}
@@ -169,18 +170,29 @@ second_of : {A B : Type 0} → A × B → B
 second_of (x, y) = y
 
 -- two clauses of which one bears on the other, or none are
-abbrev pub IsPairOf : ArenaState → Option (ℕ × ℕ) → Type 0
-IsPairOf a found = MatchOption found (NoneBears a) (λ p. IsLive a p.1 × Bears a p.0 p.1)
+abbrev pub IsPairOf : ArenaState → Option Pair → Type 0
+IsPairOf a found = MatchOption found (NoneBears a) (IsPair a)
 
-module _ (a : ArenaState) (found : Option (ℕ × ℕ)) (h : IsPairOf a found) where
+module _ (a : ArenaState) (found : Option Pair) (h : IsPairOf a found) where
   pub no_pair : found ≡ None → NoneBears a
   no_pair is = subst (IsPairOf a) is h
 
-  pub whole_lives : (p : ℕ × ℕ) → found ≡ Some p → IsLive a p.1
-  whole_lives p is = let w : IsLive a p.1 × Bears a p.0 p.1 = subst (IsPairOf a) is h in w.0
+  pub is_pair : (pair : Pair) → found ≡ Some pair → IsPair a pair
+  is_pair pair is = subst (IsPairOf a) is h
 
-  pub part_bears : (p : ℕ × ℕ) → found ≡ Some p → Bears a p.0 p.1
-  part_bears p is = second_of {A = IsLive a p.1} {B = Bears a p.0 p.1} (subst (IsPairOf a) is h)
+-- ---- what holds of a pair
+module _ (a : ArenaState) (pair : Pair) (h : IsPair a pair) where
+  bears : Bears a pair.part pair.whole
+  bears = second_of {A = IsLive a pair.whole} {B = Bears a pair.part pair.whole} h
+
+  pub both_live : AreLive a pair
+  both_live = record { part = bears.1; whole = h.0 }
+
+  pub they_differ : pair.part ≢ pair.whole
+  they_differ = bears.0
+
+  pub part_bears : IsTrue (bears_on (literals_at a pair.part) (literals_at a pair.whole))
+  part_bears = bears.2
 
 -- ---- all clauses, one after another
 pub nothing_indexed : (a : ArenaState) (lists : List (List ℕ)) (signatures : List ℕ) → signatures ≡ [] → IsIndexed a 0 lists signatures
@@ -196,6 +208,6 @@ pub all_due : (a : ArenaState) (room : Room) → room.place ≡ 0 → ((p : ℕ)
 all_due a room first waits p q live bears = inl (subst (λ n. IsWaiting room.queue.items n p) (sym first) (waits p bears.1))
 
 -- ---- what holds on an answer
-pub on_oks : {T E : Type 0} (result : Result T E) (P Q R S U : Type 0) → (P → Q → R → S → U) → OnOk result P → OnOk result Q → OnOk result R → OnOk result S → OnOk result U
-on_oks (Ok t) P Q R S U f p q r s = f p q r s
-on_oks (Err e) P Q R S U f p q r s = p
+pub on_oks : {T E : Type 0} (result : Result T E) (P Q R S : Type 0) → (P → Q → R → S) → OnOk result P → OnOk result Q → OnOk result R → OnOk result S
+on_oks (Ok t) P Q R S f p q r = f p q r
+on_oks (Err e) P Q R S f p q r = p

@@ -15,11 +15,25 @@ use Rattle.clause_arena.specs.Clauses.{ArenaState, IsLive, literals_at, learned_
 use Rattle.step_text.specs.declared.sink.Sink as sink
 use Rattle.step_text.specs.declared.sink.SinkFault.{SinkFault}
 use Rattle.step_text.specs.Sinks.{SinkFaultsAs, HasFailedAs, OnFailed}
-use Rattle.clause_tidy.specs.Agreeing.{Agrees}
+use Rattle.clause_tidy.specs.declared.pairs.Pair.{Pair}
+use Rattle.clause_tidy.specs.Agreeing.{Agrees, AreProper, IsStepId}
 use Rattle.clause_tidy.specs.Runs.{RunsTidily, EndsTidily}
 use Rattle.clause_tidy.specs.Telling.{TellsIn, as_events, with_events}
 use Rattle.clause_tidy.specs.Derived.{IsDerived}
 use Rattle.clause_tidy.specs.Tidying.{IsClauseOf, Tidies}
+
+-- what each call of a tidying may count on
+pub record MayTidy {L : Type 0} (m : sink.Ghosts L LogEvent) (formula : Problem) (spare : ℕ) (a : ArenaState) (log : L) : Type 0 where
+  pub proper : AreProper formula a
+  pub spare_id : IsStepId spare
+  pub going : m.has_failed log ≡ false
+
+-- The part is another live clause, which lies inside the whole.
+pub record Subsumes (a : ArenaState) (pair : Pair) : Type 0 where
+  pub part : IsLive a pair.part
+  pub whole : IsLive a pair.whole
+  pub differ : pair.part ≢ pair.whole
+  pub inside : IsTrue (is_inside (literals_at a pair.part) (literals_at a pair.whole))
 
 -- why a clause may go: it is a tautology, or another lies inside it that was not learned where it was not
 abbrev pub MayGo : ArenaState → ℕ → Type 0

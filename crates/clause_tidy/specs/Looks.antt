@@ -1,10 +1,15 @@
 -- A look at a clause as a part.
-use Rattle.std.specs.Prelude.{ℕ, List, Contains}
+use Rattle.std.specs.Prelude.{◌≡◌, ◌*◌, ℕ, List, length, Contains}
 use Rattle.clause_arena.specs.Clauses.{ArenaState, IsLive, literals_at}
 use Rattle.clause_tidy.specs.declared.look.Look.{Look}
-use Rattle.clause_tidy.specs.Marks.{AreMarksOf, HasSoMany}
+use Rattle.clause_tidy.specs.Marks.{AreClear, AreMarksOf, HasSoMany}
 use Rattle.clause_tidy.specs.Pairs.{Bears}
 use Rattle.clause_tidy.specs.Signatures.{IsSignature}
+
+-- nothing is marked, and each literal of a variable that has a list can be
+pub record IsBlankFor (lists : List (List ℕ)) (look : Look) : Type 0 where
+  pub clear : AreClear look.marks.items
+  pub room : length look.marks.items ≡ 2 * length lists
 
 -- the part's literals are marked and counted, and it has this signature
 pub record IsLookAt (a : ArenaState) (look : Look) : Type 0 where

@@ -21,6 +21,12 @@ IsDue room p q = IsWaiting room.queue.items room.place p ⊎ ((p ≡ room.look.p
 abbrev pub AreDue : ArenaState → Room → Type 0
 AreDue a room = (p q : ℕ) → IsLive a q → Bears a p q → IsDue room p q
 
+-- the look, the place and what was found stay
+pub record KeepsLook (old new : Room) : Type 0 where
+  pub look : new.look ≡ old.look
+  pub place : new.place ≡ old.place
+  pub found : new.found ≡ old.found
+
 -- All clauses of the arena are in the index, and what is not tidy is due.
 pub record IsRoomFor (a : ArenaState) (room : Room) : Type 0 where
   pub indexed : IsIndexed a (length a.clauses) room.index.lists room.index.signatures.items

@@ -21,6 +21,7 @@ mod signatures;
 mod steps;
 mod tautologies;
 mod telling;
+mod tidier;
 mod tidying;
 mod units;
 

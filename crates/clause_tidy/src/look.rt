@@ -4,7 +4,7 @@ ghost use Rattle.clause_arena.specs.Clauses.{IsLive, literals_at};
 ghost use Rattle.cx_base.specs.Literals.{Literal};
 ghost use Rattle.clause_tidy.specs.Indexes.{IsIndexed, AreKnown};
 ghost use Rattle.clause_tidy.specs.Listing.{list_of};
-ghost use Rattle.clause_tidy.specs.Looks.{IsLookAt, HasWholesOf};
+ghost use Rattle.clause_tidy.specs.Looks.{IsBlankFor, IsLookAt, HasWholesOf};
 ghost use Rattle.clause_tidy.specs.Marks.{AreClear, HaveRoom};
 ghost use Rattle.clause_tidy.specs.Pairs.{Bears};
 
@@ -135,13 +135,11 @@ impl Look {
     ) -> Result<(), AllocError>
         requires live { IsLive arena.now part }
         requires indexed { IsIndexed arena.now (length arena.now.clauses) index.now.lists index.now.signatures.items }
-        requires clear { AreClear self.old.marks.items }
-        requires room { length self.old.marks.items ≡ 2 * length index.now.lists }
+        requires blank { IsBlankFor index.now.lists self.old }
         requires none { found.old.items ≡ [] }
         ensures found { OnOk result (HasWholesOf arena.now part (λ q. q < length arena.now.clauses) found.new.items) }
-        ensures clear { OnOk result (AreClear self.new.marks.items) }
         ensures part { OnOk result (self.new.part ≡ part) }
-        ensures room { OnOk result (length self.new.marks.items ≡ length self.old.marks.items) }
+        ensures blank { OnOk result (IsBlankFor index.now.lists self.new) }
     {
         self.begin(arena, part);
         self.find(index, arena, found)?;

@@ -1,11 +1,18 @@
 //! Two clauses of which one lies inside the other, or strengthens it.
 ghost use Rattle.std.specs.Prelude.{◌↔◌, IsTrue};
 ghost use Rattle.clause_arena.specs.Clauses.{IsLive};
-ghost use Rattle.clause_tidy.specs.Pairs.{Bears};
+ghost use Rattle.clause_tidy.specs.Pairs.{Bears, IsPair};
 
 use clause_arena::Arena;
 use cx_base::ClauseRef;
 use tidy_rules::relations::bears_on;
+
+/// Two clauses, of which the part lies inside the whole or strengthens it.
+#[derive(Clone, Copy, Drop)]
+pub(crate) struct Pair {
+    pub part: ClauseRef,
+    pub whole: ClauseRef,
+}
 
 /// Whether a reference is that of another live clause that lies inside this one, or strengthens it.
 pub(crate) fn bears(arena: &Arena, part: ClauseRef, clause: ClauseRef) -> bool
@@ -15,9 +22,9 @@ pub(crate) fn bears(arena: &Arena, part: ClauseRef, clause: ClauseRef) -> bool
     part != clause && arena.is_live(part) && bears_on(arena.lits(part), arena.lits(clause))
 }
 
-/// Whether a clause is live, and the part bears on it.
-pub(crate) fn is_whole(arena: &Arena, part: ClauseRef, clause: ClauseRef) -> bool
-    ensures { IsTrue result ↔ (IsLive arena.now clause × Bears arena.now part clause) }
+/// Whether the whole is live, and the part bears on it.
+pub(crate) fn is_pair(arena: &Arena, pair: &Pair) -> bool
+    ensures { IsTrue result ↔ IsPair arena.now pair.now }
 {
-    arena.is_live(clause) && bears(arena, part, clause)
+    arena.is_live(pair.whole) && bears(arena, pair.part, pair.whole)
 }

@@ -5,7 +5,8 @@ ghost use Rattle.clause_tidy.specs.Answers.{TidiesOn};
 ghost use Rattle.clause_tidy.specs.Done.{TidiesTo};
 
 use crate::outcome::TidyOf;
-use crate::tidying::{Search, tidy_all};
+use crate::tidier::Tidier;
+use crate::tidying::Search;
 use clause_arena::Arena;
 use cx_base::{Formula, LogEvent};
 use std::alloc::Global;
@@ -24,5 +25,10 @@ pub fn tidy<L: Sink<Item = LogEvent>>(
     requires going { L.has_failed log.old ≡ false }
     ensures { TidiesOn L.Sink formula.now spare arena.old log.old result (TidiesTo formula.now spare arena.old arena.new) log.new }
 {
-    tidy_all(alloc, arena, formula, spare, log, Search::Pairs)
+    let tidier = Tidier {
+        alloc,
+        formula,
+        spare,
+    };
+    tidier.tidy_all(arena, log, Search::Pairs)
 }

@@ -4,12 +4,12 @@ ghost use Rattle.cx_base.specs.Problem.{AreWithin};
 ghost use Rattle.clause_arena.specs.Clauses.{IsLive, literals_at};
 ghost use Rattle.clause_tidy.specs.Indexes.{IsIndexed, AreKnown};
 ghost use Rattle.clause_tidy.specs.Marks.{AreClear};
-ghost use Rattle.clause_tidy.specs.Pairs.{Bears, NoneBears};
-ghost use Rattle.clause_tidy.specs.Rooms.{IsWaiting, IsRoomFor, IsRoomBefore};
+ghost use Rattle.clause_tidy.specs.Pairs.{IsPair, NoneBears};
+ghost use Rattle.clause_tidy.specs.Rooms.{IsWaiting, IsRoomFor, IsRoomBefore, KeepsLook};
 
 use crate::index::Index;
 use crate::look::Look;
-use crate::pairs::is_whole;
+use crate::pairs::{Pair, is_pair};
 use clause_arena::Arena;
 use cx_base::ClauseRef;
 use std::alloc::{AllocError, Global};
@@ -85,9 +85,7 @@ impl Room {
         ensures kept { OnOk result ((place p : ℕ) → IsWaiting self.old.queue.items place p → IsWaiting self.new.queue.items place p) }
         ensures waits { OnOk result ((place : ℕ) → IsLive arena.now clause → place ≤ length self.old.queue.items → IsWaiting self.new.queue.items place clause) }
         ensures longer { OnOk result (length self.old.queue.items ≤ length self.new.queue.items) }
-        ensures look { self.new.look ≡ self.old.look }
-        ensures place { self.new.place ≡ self.old.place }
-        ensures found { self.new.found ≡ self.old.found }
+        ensures keeps { KeepsLook self.old self.new }
     {
         self.index.enter(arena, clause)?;
         wait(&mut self.queue, arena, clause)
@@ -140,31 +138,32 @@ impl Room {
     }
 
     /// The clause that was looked at, and one that was found on which it bears. Those found that it does not are let go.
-    fn next_found(&mut self, arena: &Arena) -> Option<(ClauseRef, ClauseRef)>
+    fn next_found(&mut self, arena: &Arena) -> Option<Pair>
         requires room { IsRoomFor arena.now self.old }
         ensures room { IsRoomFor arena.now self.new }
-        ensures pair { MatchOption result (self.new.found.items ≡ []) (λ p. IsLive arena.now p.1 × Bears arena.now p.0 p.1) }
+        ensures pair { MatchOption result (self.new.found.items ≡ []) (IsPair arena.now) }
         ensures place { self.new.place ≡ self.old.place }
         ensures queue { self.new.queue ≡ self.old.queue }
     {
         while !self.found.is_empty() {
-            let clause = self.found[self.found.len() - 1];
-            if is_whole(arena, self.look.part, clause) {
-                return Some((self.look.part, clause));
+            let whole = self.found[self.found.len() - 1];
+            let pair = Pair {
+                part: self.look.part,
+                whole,
+            };
+            if is_pair(arena, &pair) {
+                return Some(pair);
             }
             self.found.pop();
         }
         None
     }
 
-    /// Two clauses, of which the first lies inside the second or strengthens it.
-    pub(crate) fn next(
-        &mut self,
-        arena: &Arena,
-    ) -> Result<Option<(ClauseRef, ClauseRef)>, AllocError>
+    /// Two clauses, of which the part lies inside the whole or strengthens it.
+    pub(crate) fn next(&mut self, arena: &Arena) -> Result<Option<Pair>, AllocError>
         requires { IsRoomFor arena.now self.old }
         ensures room { OnOk result (IsRoomFor arena.now self.new) }
-        ensures pair { IfOk result (λ found. MatchOption found (NoneBears arena.now) (λ p. IsLive arena.now p.1 × Bears arena.now p.0 p.1)) }
+        ensures pair { IfOk result (λ found. MatchOption found (NoneBears arena.now) (IsPair arena.now)) }
     {
         loop {
             if let Some(pair) = self.next_found(arena) {

@@ -14,6 +14,7 @@ ghost use Rattle.clause_tidy.specs.Telling.{IsStep, IsTellable};
 use crate::integers::integers;
 use crate::steps::{chained, deletion};
 use crate::telling::{tell_all, tell_one};
+use crate::tidier::Tidier;
 use cx_base::{IntList, Lit, LogEvent, LogStep};
 use std::alloc::{AllocError, Global};
 use step_text::{Sink, SinkFault};
@@ -110,44 +111,44 @@ pub(crate) fn ending_step(
     added(alloc, spare, rest, hints)
 }
 
-/// Tells a shorter clause.
-pub(crate) fn tell_shortening<L: Sink<Item = LogEvent>>(
-    alloc: Global,
-    log: &mut L,
-    spare: u64,
-    by: u64,
-    id: u64,
-    rest: &[Lit],
-) -> Result<(), SinkFault>
-    requires spare { IsStepId spare }
-    requires by { IsStepId by }
-    requires id { IsStepId id }
-    requires going { L.has_failed log.old ≡ false }
-    ensures { TellsSuch L.Sink (IsShortening spare id (integers_of rest.now)) log.old result log.new }
-{
-    match shortening_steps(alloc, spare, by, id, rest) {
-        Ok(steps) => tell_all(log, steps),
-        Err(_) => Err(SinkFault::Memory),
+impl Tidier<'_> {
+    /// Tells a shorter clause.
+    pub(crate) fn tell_shortening<L: Sink<Item = LogEvent>>(
+        &self,
+        log: &mut L,
+        by: u64,
+        id: u64,
+        rest: &[Lit],
+    ) -> Result<(), SinkFault>
+        requires spare { IsStepId self.now.spare }
+        requires by { IsStepId by }
+        requires id { IsStepId id }
+        requires going { L.has_failed log.old ≡ false }
+        ensures { TellsSuch L.Sink (IsShortening self.now.spare id (integers_of rest.now)) log.old result log.new }
+    {
+        match shortening_steps(self.alloc, self.spare, by, id, rest) {
+            Ok(steps) => tell_all(log, steps),
+            Err(_) => Err(SinkFault::Memory),
+        }
     }
-}
 
-/// Tells that an ending clause is left of one.
-pub(crate) fn tell_ending<L: Sink<Item = LogEvent>>(
-    alloc: Global,
-    log: &mut L,
-    spare: u64,
-    by: u64,
-    id: u64,
-    rest: &[Lit],
-) -> Result<(), SinkFault>
-    requires spare { IsStepId spare }
-    requires by { IsStepId by }
-    requires id { IsStepId id }
-    requires going { L.has_failed log.old ≡ false }
-    ensures { TellsSuch L.Sink (IsEnding spare (integers_of rest.now)) log.old result log.new }
-{
-    match ending_step(alloc, spare, by, id, rest) {
-        Ok(step) => tell_one(log, step),
-        Err(_) => Err(SinkFault::Memory),
+    /// Tells that an ending clause is left of one.
+    pub(crate) fn tell_ending<L: Sink<Item = LogEvent>>(
+        &self,
+        log: &mut L,
+        by: u64,
+        id: u64,
+        rest: &[Lit],
+    ) -> Result<(), SinkFault>
+        requires spare { IsStepId self.now.spare }
+        requires by { IsStepId by }
+        requires id { IsStepId id }
+        requires going { L.has_failed log.old ≡ false }
+        ensures { TellsSuch L.Sink (IsEnding self.now.spare (integers_of rest.now)) log.old result log.new }
+    {
+        match ending_step(self.alloc, self.spare, by, id, rest) {
+            Ok(step) => tell_one(log, step),
+            Err(_) => Err(SinkFault::Memory),
+        }
     }
 }

@@ -6,7 +6,7 @@ ghost use Rattle.step_text.specs.Sinks.{SinkFaultsAs, HasFailedAs, OnFailed};
 ghost use Rattle.tidy_rules.specs.declared.part.TidyPart.{TidyPart};
 ghost use Rattle.tidy_rules.specs.Parts.{IsPart, Tidied, lits_in};
 ghost use Rattle.clause_tidy.specs.Agreeing.{IsStepId, AreProper};
-ghost use Rattle.clause_tidy.specs.Answers.{EndsFrom, HasNoTautology, IsRightFrom, IsTold, IsTornAfter, MendsTo, TidiesOn};
+ghost use Rattle.clause_tidy.specs.Answers.{EndsFrom, HasNoTautology, IsRightFrom, IsTold, IsTornAfter, MayTidy, MendsTo, TidiesOn};
 ghost use Rattle.clause_tidy.specs.Derived.{IsDerived};
 ghost use Rattle.clause_tidy.specs.Done.{AgreesAgain, IfDone, IfEnded, IsCoveredBy, TidiesTo, TakesUnits};
 ghost use Rattle.clause_tidy.specs.Pairs.{NoneBears};
@@ -15,8 +15,8 @@ ghost use Rattle.clause_tidy.specs.Tidying.{IsClauseOf};
 
 use crate::outcome::TidyOf;
 use crate::tautologies::drop_tautologies;
+use crate::tidier::Tidier;
 use crate::units::take_units;
-use crate::{plain_settling, settling};
 use clause_arena::Arena;
 use cx_base::{Formula, IdList, LitList, LogEvent};
 use std::alloc::{AllocError, Global};
@@ -31,50 +31,6 @@ pub(crate) enum Search {
     Pairs,
 }
 
-/// Mends two clauses, one of which bears on the other, as long as there are two.
-fn settle<L: Sink<Item = LogEvent>>(
-    alloc: Global,
-    formula: &Formula,
-    arena: &mut Arena,
-    log: &mut L,
-    spare: u64,
-    search: Search,
-) -> Result<Option<LitList>, SinkFault>
-    requires proper { AreProper formula.now arena.old }
-    requires spare { IsStepId spare }
-    requires none { HasNoTautology arena.old }
-    requires going { L.has_failed log.old ≡ false }
-    ensures free { IfOk result (λ ended. IsNone ended → HasNoTautology arena.new) }
-    ensures bears { IfOk result (λ ended. IsNone ended → NoneBears arena.new) }
-    ensures tidies { TidiesOn L.Sink formula.now spare arena.old log.old result (MendsTo formula.now spare arena.old arena.new) log.new }
-{
-    match search {
-        Search::Queue => settling::settle(alloc, formula, arena, log, spare),
-        Search::Pairs => plain_settling::settle(alloc, formula, arena, log, spare),
-    }
-}
-
-/// Makes the clauses of an arena tidy, where it has units too, and tells the log each change. Where an ending clause is left, the log ends with it.
-fn tidy_clauses<L: Sink<Item = LogEvent>>(
-    alloc: Global,
-    formula: &Formula,
-    arena: &mut Arena,
-    log: &mut L,
-    spare: u64,
-    search: Search,
-) -> Result<Option<LitList>, SinkFault>
-    requires proper { AreProper formula.now arena.old }
-    requires spare { IsStepId spare }
-    requires going { L.has_failed log.old ≡ false }
-    ensures tidied { IfOk result (λ ended. IsNone ended → Tidied arena.new []) }
-    ensures tidies { TidiesOn L.Sink formula.now spare arena.old log.old result (MendsTo formula.now spare arena.old arena.new) log.new }
-{
-    match drop_tautologies(alloc, arena, log) {
-        Ok(()) => settle(alloc, formula, arena, log, spare, search),
-        Err(fault) => Err(fault),
-    }
-}
-
 /// The units that arose are taken out of a tidied arena: those of references from this one on.
 fn done(alloc: Global, arena: &mut Arena, first: usize) -> Result<TidyOf, AllocError>
     ensures { IfOk result (TakesUnits arena.old arena.new first) }
@@ -85,28 +41,62 @@ fn done(alloc: Global, arena: &mut Arena, first: usize) -> Result<TidyOf, AllocE
     Ok(TidyOf::Done(LitList::from_vec(units), IdList::from_vec(ids)))
 }
 
-/// Makes the clauses of an arena tidy, together with the units that arise, and tells the log each change.
-pub(crate) fn tidy_all<L: Sink<Item = LogEvent>>(
-    alloc: Global,
-    arena: &mut Arena,
-    formula: &Formula,
-    spare: u64,
-    log: &mut L,
-    search: Search,
-) -> Result<TidyOf, SinkFault>
-    requires proper { AreProper formula.now arena.old }
-    requires spare { IsStepId spare }
-    requires going { L.has_failed log.old ≡ false }
-    ensures { TidiesOn L.Sink formula.now spare arena.old log.old result (TidiesTo formula.now spare arena.old arena.new) log.new }
-{
-    let first = arena.len();
-    match tidy_clauses(alloc, formula, arena, log, spare, search) {
-        Ok(Some(lits)) => Ok(TidyOf::Ended(lits)),
-        Ok(None) => match done(alloc, arena, first) {
-            Ok(outcome) => Ok(outcome),
-            Err(_) => Err(SinkFault::Memory),
-        },
-        Err(fault) => Err(fault),
+impl Tidier<'_> {
+    /// Mends two clauses, one of which bears on the other, as long as there are two.
+    fn settle<L: Sink<Item = LogEvent>>(
+        &self,
+        arena: &mut Arena,
+        log: &mut L,
+        search: Search,
+    ) -> Result<Option<LitList>, SinkFault>
+        requires may { MayTidy L.Sink self.now.formula.now self.now.spare arena.old log.old }
+        requires none { HasNoTautology arena.old }
+        ensures free { IfOk result (λ ended. IsNone ended → HasNoTautology arena.new) }
+        ensures bears { IfOk result (λ ended. IsNone ended → NoneBears arena.new) }
+        ensures tidies { TidiesOn L.Sink self.now.formula.now self.now.spare arena.old log.old result (MendsTo self.now.formula.now self.now.spare arena.old arena.new) log.new }
+    {
+        match search {
+            Search::Queue => self.settle_by_queue(arena, log),
+            Search::Pairs => self.settle_plainly(arena, log),
+        }
+    }
+
+    /// Makes the clauses of an arena tidy, where it has units too, and tells the log each change. Where an ending clause is left, the log ends with it.
+    fn tidy_clauses<L: Sink<Item = LogEvent>>(
+        &self,
+        arena: &mut Arena,
+        log: &mut L,
+        search: Search,
+    ) -> Result<Option<LitList>, SinkFault>
+        requires { MayTidy L.Sink self.now.formula.now self.now.spare arena.old log.old }
+        ensures tidied { IfOk result (λ ended. IsNone ended → Tidied arena.new []) }
+        ensures tidies { TidiesOn L.Sink self.now.formula.now self.now.spare arena.old log.old result (MendsTo self.now.formula.now self.now.spare arena.old arena.new) log.new }
+    {
+        match drop_tautologies(self.alloc, arena, log) {
+            Ok(()) => self.settle(arena, log, search),
+            Err(fault) => Err(fault),
+        }
+    }
+
+    /// Makes the clauses of an arena tidy, together with the units that arise, and tells the log each change.
+    pub(crate) fn tidy_all<L: Sink<Item = LogEvent>>(
+        &self,
+        arena: &mut Arena,
+        log: &mut L,
+        search: Search,
+    ) -> Result<TidyOf, SinkFault>
+        requires { MayTidy L.Sink self.now.formula.now self.now.spare arena.old log.old }
+        ensures { TidiesOn L.Sink self.now.formula.now self.now.spare arena.old log.old result (TidiesTo self.now.formula.now self.now.spare arena.old arena.new) log.new }
+    {
+        let first = arena.len();
+        match self.tidy_clauses(arena, log, search) {
+            Ok(Some(lits)) => Ok(TidyOf::Ended(lits)),
+            Ok(None) => match done(self.alloc, arena, first) {
+                Ok(outcome) => Ok(outcome),
+                Err(_) => Err(SinkFault::Memory),
+            },
+            Err(fault) => Err(fault),
+        }
     }
 }
 
@@ -141,5 +131,10 @@ pub fn tidy<L: Sink<Item = LogEvent>>(
     ensures failed { HasFailedAs result (L.Sink.has_failed log.old) (L.Sink.has_failed log.new) }
     ensures frame { L.Sink.keeps log.old log.new }
 {
-    tidy_all(alloc, arena, formula, spare, log, Search::Queue)
+    let tidier = Tidier {
+        alloc,
+        formula,
+        spare,
+    };
+    tidier.tidy_all(arena, log, Search::Queue)
 }

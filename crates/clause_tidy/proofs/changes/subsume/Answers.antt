@@ -6,6 +6,9 @@ use Rattle.clause_tidy.proofs.Tellings.{goes_on}
 use Rattle.clause_tidy.proofs.Shrinkings.{on_ok, subsumed_shrinks}
 use Rattle.clause_tidy.proofs.changes.subsume.Goals as goal
 
+pub keep_for-requires : goal.keep_for-requires
+keep_for-requires g c = record { part = c.requires.live.part; whole = c.requires.live.whole; differ = c.requires.differ; inside = c.requires.inside }
+
 pub returns-clause-tidies : goal.returns-clause-tidies
 returns-clause-tidies g c = λ formula spare.
     let a = c.args.arena.now in
@@ -17,4 +20,4 @@ returns-clause-tidies g c = λ formula spare.
 
 pub returns-clause-shrinks : goal.returns-clause-shrinks
 returns-clause-shrinks g c = on_ok c.drop_clause.result _ _
-    (λ is. subsumed_shrinks c.args.arena.now c.keep_for.new.arena c.drop_clause.new.arena c.args.clause c.keep_for.ensures.shrinks c.keep_for.ensures.references c.keep_for.ensures.live is) c.drop_clause.ensures.removed
+    (λ is. subsumed_shrinks c.args.arena.now c.keep_for.new.arena c.drop_clause.new.arena c.args.pair.now.whole c.keep_for.ensures.shrinks c.keep_for.ensures.references c.keep_for.ensures.live is) c.drop_clause.ensures.removed

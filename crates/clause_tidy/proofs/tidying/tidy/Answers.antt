@@ -12,6 +12,9 @@ use Rattle.clause_tidy.specs.Tidying.{IsClauseOf}
 use Rattle.clause_tidy.proofs.AnswerLaws
 use Rattle.clause_tidy.proofs.tidying.tidy.Goals as goal
 
+pub tidy_all-requires : goal.tidy_all-requires
+tidy_all-requires g c = record { proper = c.requires.proper; spare_id = c.requires.spare; going = c.requires.going }
+
 pub returns : goal.returns
 returns g c =
     let f = c.args.formula.now in

@@ -26,7 +26,7 @@ loop-place-preserved c =
       indexed = subst (λ n. IsIndexed c.args.arena.now (n + 1) c.enter.new.self.index.lists c.enter.new.self.index.signatures.items) c.new.ensures c.in_ok-enter.ensures.indexed;
       lists = c.in_ok-enter.ensures.lists ∙ before.lists;
       waits = all_wait_more c.args.arena.now c.loop-place.self.queue.items c.enter.new.self.queue.items c.loop-place.place c.new.result c.new.ensures c.in_ok-enter.ensures.kept c.in_ok-enter.ensures.waits before.waits;
-      look = c.enter.ensures.look ∙ before.look;
-      place = c.enter.ensures.place ∙ before.place;
-      found = c.enter.ensures.found ∙ before.found;
+      look = c.enter.ensures.keeps.look ∙ before.look;
+      place = c.enter.ensures.keeps.place ∙ before.place;
+      found = c.enter.ensures.keeps.found ∙ before.found;
     }

@@ -1,4 +1,4 @@
-use Rattle.std.proofs.Common.{◌≡◌, ◌+◌, ◌≤◌, ◌∙◌, refl, sym, ap, length, arith}
+use Rattle.std.proofs.Common.{◌≡◌, ◌+◌, ◌≤◌, refl, sym, ap, length, arith}
 use Rattle.std.specs.List.{HoldsAt}
 use Rattle.std.proofs.lemmas.List.{get_or_read}
 use Rattle.clause_tidy.specs.declared.room.Queued.{Queued}
@@ -24,6 +24,9 @@ returns-then-not-is_live-clause-room c =
       due = due_after_dead a old new item.clause before c.requires.none at refl refl (λ live. not_both c.is_live.result (c.is_live.ensures.1 live) c.if-not-is_live.true);
     }
 
+pub look-requires-clause-blank : goal.look-requires-clause-blank
+look-requires-clause-blank c = record { clear = c.requires.room.clear; room = c.requires.room.marks }
+
 pub returns-clause-room : goal.returns-clause-room
 returns-clause-room c =
     let a = c.args.arena.now in
@@ -33,12 +36,12 @@ returns-clause-room c =
     let more = c.requires.more in
     let item = c.index.result.now in
     let at : HoldsAt (λ x. x.clause ≡ item.clause) old.queue.items old.place = λ d. ap (λ (x : Queued). x.clause) (sym (get_or_read old.queue.items old.place item more c.index.ensures d)) in
-    on_oks c.look.result _ _ _ _ _
-    (λ has clear part room. record {
+    on_oks c.look.result _ _ _ _
+    (λ has part blank. record {
       indexed = before.indexed;
-      marks = room ∙ before.marks;
-      clear = clear;
+      marks = blank.room;
+      clear = blank.clear;
       place = let after : old.place + 1 ≤ length old.queue.items = omega (arith, more) in after;
       due = due_after_look a old new item.clause before c.requires.none at refl refl part has;
     })
-    c.look.ensures.found c.look.ensures.clear c.look.ensures.part c.look.ensures.room
+    c.look.ensures.found c.look.ensures.part c.look.ensures.blank

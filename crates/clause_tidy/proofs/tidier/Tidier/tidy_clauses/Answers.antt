@@ -1,25 +1,29 @@
 use Rattle.std.proofs.Common.{◌∙◌}
 use Rattle.clause_tidy.specs.Answers.{MendsTo}
 use Rattle.clause_tidy.specs.Tidying.{Tidies}
-use Rattle.clause_tidy.proofs.Stages.{stage_on, mend_on}
+use Rattle.clause_tidy.proofs.Stages.{stage_on, mend_on, proper_on}
 use Rattle.clause_tidy.proofs.Tellings.{same_fault}
-use Rattle.clause_tidy.proofs.tidying.tidy_clauses.Goals as goal
+use Rattle.clause_tidy.proofs.tidier.Tidier.tidy_clauses.Goals as goal
 
-pub settle-requires-clause-going : goal.settle-requires-clause-going
-settle-requires-clause-going g c = (c.in-Ok.ensures.tidies c.args.formula.now c.args.spare).failed ∙ c.requires.going
+pub settle-requires-clause-may : goal.settle-requires-clause-may
+settle-requires-clause-may g c =
+    let f = c.args.self.now.formula.now in
+    let s = c.args.self.now.spare in
+    let told = c.in-Ok.ensures.tidies f s in
+    record { proper = proper_on f s c.args.arena.now c.drop_tautologies.new.arena told.steps told.done c.requires.proper; spare_id = c.requires.spare_id; going = told.failed ∙ c.requires.going }
 
 pub returns-in-Err-clause-tidies : goal.returns-in-Err-clause-tidies
 returns-in-Err-clause-tidies g c =
-    let f = c.args.formula.now in
-    let s = c.args.spare in
+    let f = c.args.self.now.formula.now in
+    let s = c.args.self.now.spare in
     let a = c.args.arena.now in
     let b = c.drop_tautologies.new.arena in
     same_fault g.L.Sink f s a (λ _. Tidies f s a b) (MendsTo f s a b) c.args.log.now c.drop_tautologies.new.log c.in-Err.fault (c.in-Err.ensures.tidies f s)
 
 pub returns-in-Ok-clause-tidies : goal.returns-in-Ok-clause-tidies
 returns-in-Ok-clause-tidies g c =
-    let f = c.args.formula.now in
-    let s = c.args.spare in
+    let f = c.args.self.now.formula.now in
+    let s = c.args.self.now.spare in
     let a = c.args.arena.now in
     let b = c.drop_tautologies.new.arena in
     let d = c.settle.new.arena in

@@ -2,23 +2,18 @@ use Rattle.std.proofs.Common.{refl, sym, subst, List, Option, None, Ok, arith}
 use Rattle.std.specs.Prelude.{IsNone}
 use Rattle.cx_base.specs.Literals.{Literal}
 use Rattle.clause_tidy.specs.Answers.{TidiesOn, MendsTo}
+use Rattle.clause_tidy.proofs.RoomLaws.{both_live, they_differ, part_bears}
 use Rattle.clause_tidy.proofs.Tellings.{out_of_memory}
-use Rattle.clause_tidy.proofs.settling.mend_in.Goals as goal
+use Rattle.clause_tidy.proofs.tidier.Tidier.mend_in.Goals as goal
 
-pub mend-requires-clause-part : goal.mend-requires-clause-part
-mend-requires-clause-part g c = c.requires.bears.1
+pub mend-requires-clause-live : goal.mend-requires-clause-live
+mend-requires-clause-live g c = both_live c.args.arena.now c.args.pair.now c.requires.pair
 
 pub mend-requires-clause-differ : goal.mend-requires-clause-differ
-mend-requires-clause-differ g c = c.requires.bears.0
+mend-requires-clause-differ g c = they_differ c.args.arena.now c.args.pair.now c.requires.pair
 
 pub mend-requires-clause-bears : goal.mend-requires-clause-bears
-mend-requires-clause-bears g c = c.requires.bears.2
-
-pub mend-requires-clause-part_id : goal.mend-requires-clause-part_id
-mend-requires-clause-part_id g c = c.requires.proper.ids c.args.pair.0 c.requires.bears.1
-
-pub mend-requires-clause-id : goal.mend-requires-clause-id
-mend-requires-clause-id g c = c.requires.proper.ids c.args.pair.1 c.requires.clause
+mend-requires-clause-bears g c = part_bears c.args.arena.now c.args.pair.now c.requires.pair
 
 pub admit-requires-clause-room : goal.admit-requires-clause-room
 admit-requires-clause-room g c =
@@ -40,15 +35,15 @@ returns-in-Ok-clause-room g c = λ _. c.in-Ok.ensures
 
 pub returns-in-Ok-clause-tidies : goal.returns-in-Ok-clause-tidies
 returns-in-Ok-clause-tidies g c =
-    let f = c.args.formula.now in
-    let s = c.args.spare in
+    let f = c.args.self.now.formula.now in
+    let s = c.args.self.now.spare in
     let a = c.args.arena.now in
     subst (λ e. TidiesOn {T = Option (List Literal)} g.L.Sink f s a c.args.log.now (Ok e) (MendsTo f s a c.mend.new.arena) c.mend.new.log) c.in-Ok-None.field-0-is c.in-Ok-None.ensures.tidies
 
 pub returns-in-Err-admit-clause-tidies : goal.returns-in-Err-admit-clause-tidies
 returns-in-Err-admit-clause-tidies g c =
-    let f = c.args.formula.now in
-    let s = c.args.spare in
+    let f = c.args.self.now.formula.now in
+    let s = c.args.self.now.spare in
     let a = c.args.arena.now in
     let d = c.mend.new.arena in
     let told = subst (λ e. TidiesOn {T = Option (List Literal)} g.L.Sink f s a c.args.log.now (Ok e) (MendsTo f s a d) c.mend.new.log) c.in-Ok-None.field-0-is c.in-Ok-None.ensures.tidies in
@@ -56,7 +51,7 @@ returns-in-Err-admit-clause-tidies g c =
 
 pub returns-in-Ok-Some-clause-tidies : goal.returns-in-Ok-Some-clause-tidies
 returns-in-Ok-Some-clause-tidies g c =
-    let f = c.args.formula.now in
-    let s = c.args.spare in
+    let f = c.args.self.now.formula.now in
+    let s = c.args.self.now.spare in
     let a = c.args.arena.now in
     subst (λ e. TidiesOn {T = Option (List Literal)} g.L.Sink f s a c.args.log.now (Ok e) (MendsTo f s a c.mend.new.arena) c.mend.new.log) c.in-Ok-Some.field-0-is c.in-Ok-Some.ensures.tidies

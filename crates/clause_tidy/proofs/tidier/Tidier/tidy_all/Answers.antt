@@ -5,12 +5,12 @@ use Rattle.clause_tidy.specs.Answers.{TidiesOn, MendsTo}
 use Rattle.clause_tidy.specs.Done.{TidiesTo}
 use Rattle.clause_tidy.proofs.DoneLaws.{outcome_is}
 use Rattle.clause_tidy.proofs.Tellings.{other_answer, out_of_memory}
-use Rattle.clause_tidy.proofs.tidying.tidy_all.Goals as goal
+use Rattle.clause_tidy.proofs.tidier.Tidier.tidy_all.Goals as goal
 
 pub returns-in-Ok : goal.returns-in-Ok
 returns-in-Ok g c =
-    let f = c.args.formula.now in
-    let s = c.args.spare in
+    let f = c.args.self.now.formula.now in
+    let s = c.args.self.now.spare in
     let a = c.args.arena.now in
     let m = c.tidy_clauses.new.arena in
     let b = c.done.new.arena in
@@ -21,8 +21,8 @@ returns-in-Ok g c =
 
 pub returns-in-Err-done : goal.returns-in-Err-done
 returns-in-Err-done g c =
-    let f = c.args.formula.now in
-    let s = c.args.spare in
+    let f = c.args.self.now.formula.now in
+    let s = c.args.self.now.spare in
     let a = c.args.arena.now in
     let m = c.tidy_clauses.new.arena in
     let told = subst (λ e. TidiesOn {T = Option (List Literal)} g.L.Sink f s a c.args.log.now (Ok e) (MendsTo f s a m) c.tidy_clauses.new.log) c.in-Ok-None.field-0-is c.in-Ok-None.ensures.tidies in

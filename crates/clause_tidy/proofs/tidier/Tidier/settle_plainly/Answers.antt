@@ -4,22 +4,22 @@ use Rattle.clause_tidy.specs.Answers.{TidiesOn, MendsTo}
 use Rattle.clause_tidy.specs.Tidying.{Tidies}
 use Rattle.clause_tidy.proofs.Stages.{first_stage, stage_on, mend_on, free_on, proper_on}
 use Rattle.clause_tidy.proofs.Tellings.{other_answer}
-use Rattle.clause_tidy.proofs.plain_settling.settle.Goals as goal
+use Rattle.clause_tidy.proofs.tidier.Tidier.settle_plainly.Goals as goal
 
 pub loop-pair-init : goal.loop-pair-init
 loop-pair-init g c = record {
-  stage = first_stage g.L.Sink c.args.formula.now c.args.spare c.args.arena.now c.args.log.now (g.met.L.Sink.keeps_itself c.args.log.now);
+  stage = first_stage g.L.Sink c.args.self.now.formula.now c.args.self.now.spare c.args.arena.now c.args.log.now (g.met.L.Sink.keeps_itself c.args.log.now);
   free = c.requires.none;
-  proper = c.requires.proper;
+  proper = c.requires.may.proper;
 }
 
-pub mend-requires-clause-going : goal.mend-requires-clause-going
-mend-requires-clause-going g c = c.loop-pair.invariant.stage.failed ∙ c.requires.going
+pub mend-requires-clause-may : goal.mend-requires-clause-may
+mend-requires-clause-may g c = record { proper = c.loop-pair.invariant.proper; spare_id = c.requires.may.spare_id; going = c.loop-pair.invariant.stage.failed ∙ c.requires.may.going }
 
 pub returns-in-Err-clause-tidies : goal.returns-in-Err-clause-tidies
 returns-in-Err-clause-tidies g c =
-    let f = c.args.formula.now in
-    let s = c.args.spare in
+    let f = c.args.self.now.formula.now in
+    let s = c.args.self.now.spare in
     let a = c.args.arena.now in
     let b = c.loop-pair.arena in
     let d = c.mend.new.arena in
@@ -28,8 +28,8 @@ returns-in-Err-clause-tidies g c =
 
 pub returns-in-Ok-Some-clause-tidies : goal.returns-in-Ok-Some-clause-tidies
 returns-in-Ok-Some-clause-tidies g c =
-    let f = c.args.formula.now in
-    let s = c.args.spare in
+    let f = c.args.self.now.formula.now in
+    let s = c.args.self.now.spare in
     let a = c.args.arena.now in
     let b = c.loop-pair.arena in
     let d = c.mend.new.arena in
@@ -39,8 +39,8 @@ returns-in-Ok-Some-clause-tidies g c =
 
 pub loop-pair-preserved : goal.loop-pair-preserved
 loop-pair-preserved g c =
-    let f = c.args.formula.now in
-    let s = c.args.spare in
+    let f = c.args.self.now.formula.now in
+    let s = c.args.self.now.spare in
     let a = c.args.arena.now in
     let b = c.loop-pair.arena in
     let d = c.mend.new.arena in

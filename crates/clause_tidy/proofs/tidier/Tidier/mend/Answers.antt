@@ -2,20 +2,23 @@ use Rattle.std.proofs.Common.{None}
 use Rattle.clause_tidy.specs.Answers.{MendsTo}
 use Rattle.clause_tidy.specs.Tidying.{Tidies}
 use Rattle.clause_tidy.proofs.Tellings.{other_answer, same_fault}
-use Rattle.clause_tidy.proofs.mending.mend.Goals as goal
+use Rattle.clause_tidy.proofs.tidier.Tidier.mend.Goals as goal
+
+pub subsume-requires-clause-id : goal.subsume-requires-clause-id
+subsume-requires-clause-id g c = c.requires.may.proper.ids c.args.pair.now.whole c.requires.live.whole
 
 pub returns-in-Ok-clause-tidies : goal.returns-in-Ok-clause-tidies
 returns-in-Ok-clause-tidies g c =
-    let f = c.args.formula.now in
+    let f = c.args.self.now.formula.now in
     let a = c.args.arena.now in
     let b = c.subsume.new.arena in
-    let s = c.args.spare in
+    let s = c.args.self.now.spare in
     other_answer g.L.Sink f s a (λ _. Tidies f s a b) (MendsTo f s a b) c.args.log.now c.subsume.new.log tt None (λ ss t. t) (c.in-Ok.ensures.tidies f s)
 
 pub returns-in-Err-clause-tidies : goal.returns-in-Err-clause-tidies
 returns-in-Err-clause-tidies g c =
-    let f = c.args.formula.now in
+    let f = c.args.self.now.formula.now in
     let a = c.args.arena.now in
     let b = c.subsume.new.arena in
-    let s = c.args.spare in
+    let s = c.args.self.now.spare in
     same_fault g.L.Sink f s a (λ _. Tidies f s a b) (MendsTo f s a b) c.args.log.now c.subsume.new.log c.in-Err.fault (c.in-Err.ensures.tidies f s)

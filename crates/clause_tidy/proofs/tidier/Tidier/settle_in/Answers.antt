@@ -3,32 +3,29 @@ use Rattle.std.specs.Prelude.{IsNone}
 use Rattle.cx_base.specs.Literals.{Literal}
 use Rattle.clause_tidy.specs.Answers.{TidiesOn, MendsTo}
 use Rattle.clause_tidy.specs.Tidying.{Tidies}
-use Rattle.clause_tidy.proofs.RoomLaws.{no_pair, whole_lives, part_bears}
+use Rattle.clause_tidy.proofs.RoomLaws.{no_pair, is_pair}
 use Rattle.clause_tidy.proofs.Stages.{first_stage, stage_on, mend_on, free_on, proper_on}
 use Rattle.clause_tidy.proofs.Tellings.{other_answer, out_of_memory}
-use Rattle.clause_tidy.proofs.settling.settle_in.Goals as goal
+use Rattle.clause_tidy.proofs.tidier.Tidier.settle_in.Goals as goal
 
 pub loop-pair-init : goal.loop-pair-init
 loop-pair-init g c = record {
-  stage = first_stage g.L.Sink c.args.formula.now c.args.spare c.args.arena.now c.args.log.now (g.met.L.Sink.keeps_itself c.args.log.now);
+  stage = first_stage g.L.Sink c.args.self.now.formula.now c.args.self.now.spare c.args.arena.now c.args.log.now (g.met.L.Sink.keeps_itself c.args.log.now);
   free = c.requires.none;
-  proper = c.requires.proper;
+  proper = c.requires.may.proper;
   room = c.requires.room;
 }
 
-pub mend_in-requires-clause-clause : goal.mend_in-requires-clause-clause
-mend_in-requires-clause-clause g c = whole_lives c.loop-pair.arena c.in-Ok-Some.field-0 c.in-Ok-Some.ensures.pair c.in-Ok-Some.pair c.in-Ok-Some.field-0-is
+pub mend_in-requires-clause-pair : goal.mend_in-requires-clause-pair
+mend_in-requires-clause-pair g c = is_pair c.loop-pair.arena c.in-Ok-Some.field-0 c.in-Ok-Some.ensures.pair c.in-Ok-Some.pair c.in-Ok-Some.field-0-is
 
-pub mend_in-requires-clause-bears : goal.mend_in-requires-clause-bears
-mend_in-requires-clause-bears g c = part_bears c.loop-pair.arena c.in-Ok-Some.field-0 c.in-Ok-Some.ensures.pair c.in-Ok-Some.pair c.in-Ok-Some.field-0-is
-
-pub mend_in-requires-clause-going : goal.mend_in-requires-clause-going
-mend_in-requires-clause-going g c = c.loop-pair.invariant.stage.failed ∙ c.requires.going
+pub mend_in-requires-clause-may : goal.mend_in-requires-clause-may
+mend_in-requires-clause-may g c = record { proper = c.loop-pair.invariant.proper; spare_id = c.requires.may.spare_id; going = c.loop-pair.invariant.stage.failed ∙ c.requires.may.going }
 
 pub loop-pair-preserved : goal.loop-pair-preserved
 loop-pair-preserved g c =
-    let f = c.args.formula.now in
-    let s = c.args.spare in
+    let f = c.args.self.now.formula.now in
+    let s = c.args.self.now.spare in
     let a = c.args.arena.now in
     let b = c.loop-pair.arena in
     let d = c.mend_in.new.arena in
@@ -45,8 +42,8 @@ loop-pair-preserved g c =
 
 pub returns-in-Err-mend_in-clause-tidies : goal.returns-in-Err-mend_in-clause-tidies
 returns-in-Err-mend_in-clause-tidies g c =
-    let f = c.args.formula.now in
-    let s = c.args.spare in
+    let f = c.args.self.now.formula.now in
+    let s = c.args.self.now.spare in
     let a = c.args.arena.now in
     let b = c.loop-pair.arena in
     let d = c.mend_in.new.arena in
@@ -55,8 +52,8 @@ returns-in-Err-mend_in-clause-tidies g c =
 
 pub returns-in-Ok-Some-mend_in-clause-tidies : goal.returns-in-Ok-Some-mend_in-clause-tidies
 returns-in-Ok-Some-mend_in-clause-tidies g c =
-    let f = c.args.formula.now in
-    let s = c.args.spare in
+    let f = c.args.self.now.formula.now in
+    let s = c.args.self.now.spare in
     let a = c.args.arena.now in
     let b = c.loop-pair.arena in
     let d = c.mend_in.new.arena in
@@ -69,16 +66,16 @@ returns-in-Ok-None-clause-bears g c = λ _. no_pair c.loop-pair.arena c.in-Ok-No
 
 pub returns-in-Ok-None-clause-tidies : goal.returns-in-Ok-None-clause-tidies
 returns-in-Ok-None-clause-tidies g c =
-    let f = c.args.formula.now in
-    let s = c.args.spare in
+    let f = c.args.self.now.formula.now in
+    let s = c.args.self.now.spare in
     let a = c.args.arena.now in
     let b = c.loop-pair.arena in
     other_answer g.L.Sink f s a (λ _. Tidies f s a b) (MendsTo f s a b) c.args.log.now c.loop-pair.log tt None (λ ss t. t) c.loop-pair.invariant.stage
 
 pub returns-in-Err-clause-tidies : goal.returns-in-Err-clause-tidies
 returns-in-Err-clause-tidies g c =
-    let f = c.args.formula.now in
-    let s = c.args.spare in
+    let f = c.args.self.now.formula.now in
+    let s = c.args.self.now.spare in
     let a = c.args.arena.now in
     let b = c.loop-pair.arena in
     out_of_memory g.L.Sink f s a (λ _. Tidies f s a b) (MendsTo f s a b) c.args.log.now c.loop-pair.log tt (λ ss t tables h. let w = t.runs tables h in (w.0, w.1)) c.loop-pair.invariant.stage

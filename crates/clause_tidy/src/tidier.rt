@@ -1,0 +1,12 @@
+//! What a tidying is given and leaves as it is.
+use cx_base::Formula;
+use std::alloc::Global;
+
+/// What a tidying is given and leaves as it is.
+#[derive(Drop)]
+pub(crate) struct Tidier<'f> {
+    pub alloc: Global,
+    pub formula: &'f Formula,
+    /// The id under which a shorter clause waits for the one that it replaces to go.
+    pub spare: u64,
+}
