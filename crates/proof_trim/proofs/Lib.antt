@@ -3,6 +3,7 @@ pub mod Staying
 pub mod TrimLaws
 pub mod MarkLaws
 pub mod NameLaws
+pub mod IdLaws
 pub mod SetLaws
 pub mod RemoveLaws
 pub mod PassLaws

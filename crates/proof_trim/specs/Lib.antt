@@ -2,6 +2,7 @@ pub mod Names
 pub mod Needed
 pub mod Trimmed
 pub mod Marking
+pub mod IdSets
 pub mod NameSets
 pub mod Outcomes
 pub mod Laws

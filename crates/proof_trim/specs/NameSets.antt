@@ -1,7 +1,6 @@
 -- Sets of names, and what steps do to them.
 use Rattle.std.specs.Prelude.{◌≡◌, ℕ, ℤ, Bool, false, not, ◌&&◌, ◌||◌, nat_lt, nat_le, List, if◌then◌else◌}
 use Rattle.std.specs.List.{list_any}
-use Rattle.std.specs.FinMap as map
 use Rattle.std.specs.Option.{is_some}
 use Rattle.cx_base.specs.declared.steps.ProofStep.{ProofStep}
 use Rattle.cx_base.specs.declared.steps.ProofStep.TheVariants.{Clause, DeleteClauses, Parity, DeleteParities, ClauseOfParity, ParityOfClauses}
@@ -9,6 +8,7 @@ use Rattle.cx_semantics.specs.Tables.{Tables}
 use Rattle.proof_rules.specs.declared.live.Kind.{Kind}
 use Rattle.proof_rules.specs.declared.live.Kind.TheVariants.{Clauses, Parities}
 use Rattle.proof_trim.specs.declared.names.NameSet.{NameSet}
+use Rattle.proof_trim.specs.IdSets.{has_id}
 use Rattle.proof_trim.specs.Names.{Name, clause, parity, same_name, look, puts, takes_out, are_clauses, are_parities}
 
 -- the name of a constraint of this kind and id
@@ -18,8 +18,8 @@ name_of Parities n = parity n
 
 -- the name is in the set
 abbrev pub has_name : NameSet → Name → Bool
-has_name names (clause n) = map.contains_key names.clauses n
-has_name names (parity n) = map.contains_key names.parities n
+has_name names (clause n) = has_id names.clauses n
+has_name names (parity n) = has_id names.parities n
 
 -- the name of a constraint of this kind with a number from 1 up to the count
 abbrev pub is_number : Kind → ℕ → Name → Bool

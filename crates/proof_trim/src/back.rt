@@ -8,6 +8,7 @@ ghost use Rattle.proof_trim.specs.Puts.{step_at};
 use crate::names::NameSet;
 use crate::put::Put;
 use crate::store::StepStore;
+use cx_base::Formula;
 use std::alloc::{AllocError, Global};
 
 /// What going back through a proof finds.
@@ -56,13 +57,17 @@ fn back_over(
     }
 }
 
-/// Goes back through a proof, whose last step is needed: which other steps are, and what they name of the formula. The
-/// formula and the proof have so many constraints and steps.
-pub(crate) fn go_back(alloc: Global, count: usize, proof: &StepStore) -> Result<Found, AllocError>
+/// Goes back through a proof of the formula, whose last step is needed: which other steps are, and what they name of the
+/// formula.
+pub(crate) fn go_back(
+    alloc: Global,
+    formula: &Formula,
+    proof: &StepStore,
+) -> Result<Found, AllocError>
     ensures marks { IfOk result (λ found. found.marks.items ≡ marks_of proof.now) }
     ensures wanted { IfOk result (λ found. Has found.wanted (wants proof.now)) }
 {
-    let mut wanted = NameSet::beside(alloc, count);
+    let mut wanted = NameSet::beside(alloc, formula, proof.len())?;
     let mut marks = Vec::new(alloc);
     marks.resize(proof.len(), false)?;
     let mut left = proof.len();

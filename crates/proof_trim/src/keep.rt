@@ -30,11 +30,11 @@ fn insert_numbers(names: &mut NameSet, kind: Kind, count: usize) -> Result<(), A
     Ok(())
 }
 
-/// The names of the formula's constraints.
-fn names_of(alloc: Global, formula: &Formula) -> Result<NameSet, AllocError>
+/// The names of the formula's constraints, among which those of so many steps will come and go.
+fn names_of(alloc: Global, formula: &Formula, steps: usize) -> Result<NameSet, AllocError>
     ensures { IfOk result (λ names. Has names (live_in (first_tables formula.now))) }
 {
-    let mut names = NameSet::beside(alloc, formula.len());
+    let mut names = NameSet::beside(alloc, formula, steps)?;
     insert_numbers(&mut names, Kind::Clauses, formula.clause_count())?;
     insert_numbers(&mut names, Kind::Parities, formula.parity_count())?;
     Ok(names)
@@ -151,7 +151,7 @@ pub(crate) fn keep(
     ensures kept { IfOk result (λ kept. chosen kept.items proof.now ≡ trimmed formula.now (marked marks.now) proof.now) }
     ensures room { OnOk result (here.new.room ≡ here.old.room) }
 {
-    let mut live = names_of(alloc, formula)?;
+    let mut live = names_of(alloc, formula, proof.len())?;
     let mut kept = Vec::new(alloc);
     for place in 0..proof.len() {
         let stays = keep_at(&mut live, proof, place, marks[place], here)?;

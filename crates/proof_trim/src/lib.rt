@@ -2,6 +2,7 @@
 #![tactic(auto)]
 
 mod back;
+mod ids;
 mod integers;
 mod keep;
 mod kept;

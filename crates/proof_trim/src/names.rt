@@ -1,40 +1,42 @@
 //! Sets of names of constraints.
-ghost use Rattle.std.specs.Prelude.{◌≡◌, ◌≤◌, false, length, not, ◌&&◌, ◌||◌, nat_abs, OnOk};
+ghost use Rattle.std.specs.Prelude.{◌≡◌, ◌≤◌, false, length, not, ◌&&◌, ◌||◌, nat_abs, OnOk, IfOk};
 ghost use Rattle.proof_trim.specs.Integers.{part};
 ghost use Rattle.proof_trim.specs.Names.{Name, same_name};
 ghost use Rattle.proof_trim.specs.NameSets.{Has, has_name, hinted_as, name_of};
 
+use crate::ids::IdSet;
 use crate::integers::Integers;
-use proof_rules::{Filler, IdMap, Kind};
+use cx_base::Formula;
+use proof_rules::Kind;
 use std::alloc::{AllocError, Global};
 
-/// What is kept with a name: nothing.
-#[derive(Drop)]
-struct Here;
-
-impl Filler for Here {
-    fn filler() -> Here {
-        Here
-    }
-}
-
-/// A set of ids of clauses and of ids of parities. A bit is kept for each.
+/// A set of ids of clauses and of ids of parities.
 #[derive(Drop)]
 pub(crate) struct NameSet {
-    clauses: IdMap<Here>,
-    parities: IdMap<Here>,
+    clauses: IdSet,
+    parities: IdSet,
+}
+
+/// Of this room for ids what parities get: none where the formula has no parity, since then few proofs make any.
+fn parity_room(formula: &Formula, room: usize) -> usize {
+    if formula.parity_count() == 0 { 0 } else { room }
 }
 
 impl NameSet {
-    /// No name. So many names stand elsewhere: ids up to four times as great have their bit from the start, and are not
-    /// looked for in an order.
-    pub(crate) fn beside(alloc: Global, count: usize) -> NameSet
-        ensures { Has result (λ name. false) }
+    /// No name. There is room for the ids that the formula's constraints and so many steps have where these are numbered one
+    /// after another; all others are looked for in maps.
+    pub(crate) fn beside(
+        alloc: Global,
+        formula: &Formula,
+        steps: usize,
+    ) -> Result<NameSet, AllocError>
+        ensures { IfOk result (λ names. Has names (λ name. false)) }
     {
-        NameSet {
-            clauses: IdMap::beside(alloc, count as u64),
-            parities: IdMap::beside(alloc, count as u64),
-        }
+        let room = formula.len().saturating_add(steps).saturating_add(1);
+        Ok(NameSet {
+            clauses: IdSet::with_room(alloc, room)?,
+            parities: IdSet::with_room(alloc, parity_room(formula, room))?,
+        })
     }
 
     /// Whether the constraint of this kind and id is in it.
@@ -42,8 +44,8 @@ impl NameSet {
         ensures { result ≡ has_name self.now (name_of kind id) }
     {
         match kind {
-            Kind::Clauses => self.clauses.get(id).is_some(),
-            Kind::Parities => self.parities.get(id).is_some(),
+            Kind::Clauses => self.clauses.has(id),
+            Kind::Parities => self.parities.has(id),
         }
     }
 
@@ -52,8 +54,8 @@ impl NameSet {
         ensures { OnOk result (Has self.new (λ name. same_name name (name_of kind id) || has_name self.old name)) }
     {
         match kind {
-            Kind::Clauses => self.clauses.insert(id, Here),
-            Kind::Parities => self.parities.insert(id, Here),
+            Kind::Clauses => self.clauses.insert(id),
+            Kind::Parities => self.parities.insert(id),
         }
     }
 

@@ -41,8 +41,7 @@ fn numbers_in(
 fn trimmed_of(alloc: Global, formula: &Formula, proof: StepStore) -> Result<Trimmed, AllocError>
     ensures { IfOk result (Trims formula.now proof) }
 {
-    let count = formula.len().saturating_add(proof.len());
-    let found = go_back(alloc, count, &proof)?;
+    let found = go_back(alloc, formula, &proof)?;
     let clauses = numbers_in(alloc, &found.wanted, Kind::Clauses, formula.clause_count())?;
     let parities = numbers_in(alloc, &found.wanted, Kind::Parities, formula.parity_count())?;
     let mut here = proof.opened(alloc)?;

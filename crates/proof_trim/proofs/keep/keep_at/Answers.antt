@@ -10,7 +10,7 @@ use Rattle.proof_trim.proofs.keep.keep_at.Goals as goal
 pub returns-in-Some-clause-kept : goal.returns-in-Some-clause-kept
 returns-in-Some-clause-kept c =
     if_both c.keep_put.result _ _ _
-    (λ said is has. kept_put c.args.is_needed said (step_at c.args.proof.now c.args.place) _ c.args.live.now _ (sym c.put_at.ensures ∙ c.in-Some.is) is has)
+    (λ said is has. kept_put c.args.is_needed said (step_at c.args.proof.now c.args.place) _ c.args.live.now c.keep_put.new.live (sym c.put_at.ensures ∙ c.in-Some.is) is has)
     c.keep_put.ensures.stays c.keep_put.ensures.live
 
 pub returns-in-None-clause-kept : goal.returns-in-None-clause-kept

@@ -7,6 +7,6 @@ use Rattle.proof_trim.proofs.keep.names_of.Goals as goal
 pub returns : goal.returns
 returns c = λ name.
     c.in_ok-insert_numbers-2.ensures name
-    ∙ ap (λ b. is_number Parities c.parity_count.result name || b) (c.in_ok-insert_numbers.ensures name ∙ ap (λ b. is_number Clauses c.clause_count.result name || b) (c.beside-names.ensures name))
+    ∙ ap (λ b. is_number Parities c.parity_count.result name || b) (c.in_ok-insert_numbers.ensures name ∙ ap (λ b. is_number Clauses c.clause_count.result name || b) (c.in_ok-names.ensures name))
     ∙ (λ i. is_number Parities (c.parity_count.ensures i) name || (is_number Clauses (c.clause_count.ensures i) name || false))
     ∙ first_live c.args.formula.now name
