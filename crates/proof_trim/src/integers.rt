@@ -1,17 +1,18 @@
-//! Integers, packed: each takes 32 bits, up to the first that needs more.
+//! Integers, packed: each takes 16 bits, up to the first that needs more, and 32 bits up to the first that needs more still.
 ghost use Rattle.std.specs.Prelude.{◌≡◌, ◌<◌, ◌≤◌, ◌-◌, ◌++◌, ◌∷◌, [], length, map, pos, take, get_or, OnOk};
 ghost use Rattle.proof_trim.specs.Integers.{part, signed, unsigned};
 
+use crate::longer::LongerIntegers;
 use std::alloc::{AllocError, Global};
 use std::marker::Model;
 
 /// Integers, nearly always small.
 #[derive(Drop)]
 pub(crate) struct Integers {
-    /// Those before the first that 32 bits do not hold.
-    narrow: Vec<i32>,
+    /// Those before the first that 16 bits do not hold.
+    short: Vec<i16>,
     /// That one and those after it.
-    wide: Vec<i64>,
+    longer: LongerIntegers,
 }
 
 impl Model for Integers {
@@ -19,7 +20,7 @@ impl Model for Integers {
 
     ghost Value = { List ℤ };
 
-    ghost view = { λ a. a.narrow.items ++ a.wide.items };
+    ghost view = { λ a. a.short.items ++ a.longer };
 }
 
 /// An id as an integer.
@@ -52,8 +53,8 @@ impl Integers {
         ensures { result ≡ [] }
     {
         Integers {
-            narrow: Vec::new(alloc),
-            wide: Vec::new(alloc),
+            short: Vec::new(alloc),
+            longer: LongerIntegers::new(alloc),
         }
     }
 
@@ -61,7 +62,7 @@ impl Integers {
     pub(crate) fn len(&self) -> usize
         ensures { result ≡ length self.now }
     {
-        self.narrow.len() + self.wide.len()
+        self.short.len() + self.longer.len()
     }
 
     /// Puts an integer after the others.
@@ -69,12 +70,12 @@ impl Integers {
     pub(crate) fn push(&mut self, integer: i64) -> Result<(), AllocError>
         ensures { OnOk result (self.new ≡ self.old ++ integer ∷ []) }
     {
-        if self.wide.is_empty() && -2147483648 <= integer && integer < 2147483648 {
-            self.narrow.push(integer as i32)?;
+        if self.longer.is_empty() && -32768 <= integer && integer < 32768 {
+            self.short.push(integer as i16)?;
+            Ok(())
         } else {
-            self.wide.push(integer)?;
+            self.longer.push(integer)
         }
-        Ok(())
     }
 
     /// Puts an id after the others.
@@ -111,10 +112,10 @@ impl Integers {
         requires { place < length self.now }
         ensures { result ≡ get_or self.now place (pos 0) }
     {
-        if place < self.narrow.len() {
-            i64::from(self.narrow[place])
+        if place < self.short.len() {
+            i64::from(self.short[place])
         } else {
-            self.wide[place - self.narrow.len()]
+            self.longer.at(place - self.short.len())
         }
     }
 
@@ -131,8 +132,8 @@ impl Integers {
     pub(crate) fn clear(&mut self)
         ensures { self.new ≡ [] }
     {
-        self.narrow.clear();
-        self.wide.clear();
+        self.short.clear();
+        self.longer.clear();
     }
 
     /// Copies the integers from start up to end to the first places of a list.

@@ -7,6 +7,7 @@ mod integers;
 mod keep;
 mod kept;
 mod laws;
+mod longer;
 mod names;
 mod opened;
 mod outcome;
