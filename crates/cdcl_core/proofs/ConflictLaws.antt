@@ -172,14 +172,6 @@ module _ (formula : Problem) (c : SearchState) (e : State) (told : Option (List 
       subst (IsAntecedent c.trail l) (sym are) (reasons.is_antecedent c.trail e l row at reason written numbers sums clause st.3.trail.follows.sound),
     )
 
-    pub row_concludes : (new : Option (List LogEvent)) (kept : Option Literal) (k : Conflict) (clause : List Literal) → k.rows.items ≡ clause ∷ [] → IsId k.id → IsClauseAgainst c k.rows.items kept k.lits → SearchStands formula c e (clause ∷ []) new
-        → Concludes formula c e new kept (Clause k)
-    row_concludes new kept k clause rows is_id at stands = (
-      subst (λ xs. SearchStands formula c e xs new) (sym rows) stands,
-      at,
-      (is_id, let long = ap length rows in omega (arith, long)),
-    )
-
 pub found_concludes : (formula : Problem) (c : SearchState) (e : State) (told : Option (List LogEvent)) → SearchStands formula c e [] told → (what : Found) (r : ℕ) → what ≡ found.Clause r → PropagationFinds c e what
     → (k : Conflict) → k.lits ≡ literals_at c.arena r → k.rows.items ≡ [] → IsId k.id → Concludes formula c e told None (Clause k)
 found_concludes formula c e told st what r is finds k are none is_id =

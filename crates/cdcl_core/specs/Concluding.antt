@@ -1,5 +1,5 @@
 -- What a conflict comes to.
-use Rattle.std.specs.Prelude.{◌≡◌, ℕ, ◌+◌, ◌<◌, ◌≤◌, List, [], length, Option, Some, None, Result, OnOk, IfOk, IsFalse, IsTrue, ◌≢◌}
+use Rattle.std.specs.Prelude.{◌≡◌, ℕ, ◌+◌, ◌<◌, ◌≤◌, List, [], ◌∷◌, length, Option, Some, None, Result, OnOk, IfOk, IsFalse, IsTrue, ◌≢◌}
 use Rattle.std.specs.List.{AllByRecursion}
 use Rattle.cx_base.specs.Assumptions.{clashes, IsFailed}
 use Rattle.cx_base.specs.Problem.{Problem, Unmet}
@@ -63,6 +63,12 @@ pub record EndsLog (formula : Problem) (marks : ℕ) (told : Option (List LogEve
 -- the clause of a conflict has an id that a step may have, and at most one clause of a row was told for it
 abbrev pub IsTold : Conflict → Type 0
 IsTold k = IsId k.id × (length k.rows.items ≤ 1)
+
+-- the clause of a row is the conflict's, and the only one that was told for it
+pub record IsToldRow (clause : List Literal) (k : Conflict) : Type 0 where
+  pub lits : k.lits ≡ clause
+  pub rows : k.rows.items ≡ clause ∷ []
+  pub told : IsTold k
 
 -- Up to an answer the end is told: no values meet the formula, and the log shows it, marked no more often than before. The answer is the assumptions that fail. The log goes on.
 pub record TellsEnd {L : Type 0} (m : sink.Ghosts L LogEvent) (old : SearchLog L) (marks : ℕ) (new : SearchLog L) (result : Result (List Literal) CoreFault) : Type 0 where

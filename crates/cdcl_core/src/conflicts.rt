@@ -1,16 +1,19 @@
 //! The clauses of conflicts, and of literals that contradict assumed ones.
-ghost use Rattle.std.specs.Prelude.{◌≡◌, ◌≢◌, ℕ, ◌<◌, ◌≤◌, [], length, None, Some, IfOk};
+ghost use Rattle.std.specs.Prelude.{◌≡◌, ◌≢◌, ℕ, ◌<◌, ◌≤◌, [], length, None, Some, IfOk, IsFalse};
+ghost use Rattle.cx_base.specs.Assumptions.{is_ending};
 ghost use Rattle.cx_trail.specs.Sequence.{entry_at};
+ghost use Rattle.conflict_learn.specs.Faults.{fault_in};
 ghost use Rattle.parity_engine.specs.Written.{AreRising};
 ghost use Rattle.search_policy.specs.Assuming.{Contradicts, KeepsAssumptions};
 ghost use Rattle.cdcl_search.specs.Finds.{PropagationFinds};
-ghost use Rattle.cdcl_search.specs.Logs.{HasNotFailed, Stands};
+ghost use Rattle.cdcl_search.specs.Explaining.{Explains};
+ghost use Rattle.cdcl_search.specs.Logs.{GoesOn, HasNotFailed, Stands};
 ghost use Rattle.cdcl_search.specs.Rows.{AreFew};
 ghost use Rattle.cdcl_search.specs.Sources.{HasIds};
 ghost use Rattle.std.specs.List.{All};
 ghost use Rattle.cdcl_search.specs.declared.propagation.Found.TheVariants.{Quiet};
 ghost use Rattle.conflict_learn.specs.Learning.{HasReason};
-ghost use Rattle.cdcl_core.specs.Concluding.{ConcludesOn, IsRowAgainst, IsByClause, IsOfClause};
+ghost use Rattle.cdcl_core.specs.Concluding.{ConcludesOn, IsRowAgainst, IsToldRow, IsByClause, IsOfClause};
 ghost use Rattle.cdcl_core.specs.Shortening.{EndsByRow};
 ghost use Rattle.cdcl_core.specs.declared.conflicts.Conflict.{Conflict};
 ghost use Rattle.cdcl_core.specs.declared.conflicts.Conclusion.TheVariants as conclusion;
@@ -73,6 +76,32 @@ fn end_of_row(
     last_steps(alloc, formula, id, reason.sources, &short, Vec::new(alloc))
 }
 
+/// The clause of a row, which is not an ending clause. It is told first.
+pub(crate) fn told_row<P: ParityEngine, L: Sink<Item = LogEvent>>(
+    log: &mut SearchLog<L>,
+    state: &SearchState,
+    engine: &P,
+    reason: ReasonOf,
+) -> Result<Conflict, CoreFault>
+    requires stands { Stands P.ParityEngine L.Sink log.old state.now engine.now [] }
+    requires explains { Explains (P.state engine.now).parities state.now.trail reason }
+    requires goes_on { IsFalse (is_ending log.old.formula.now.constraints reason.clause) }
+    requires going { HasNotFailed L.Sink log.old }
+    ensures told { IfOk result (IsToldRow reason.clause) }
+    ensures stands { IfOk result (λ k. Stands P.ParityEngine L.Sink log.new state.now engine.now k.rows.items) }
+    ensures log { GoesOn L.Sink log.old (fault_in result) log.new }
+{
+    let mut rows = Vec::new(log.alloc);
+    match tell_reason(log, state, engine, reason, &mut rows) {
+        Ok(lits) => Ok(Conflict {
+            lits,
+            id: first_id_of_rows(state.next),
+            rows,
+        }),
+        Err(fault) => Err(fault),
+    }
+}
+
 /// What comes of a row that is not met, or of one that implied a literal that contradicts an assumed one.
 fn of_row<P: ParityEngine, L: Sink<Item = LogEvent>>(
     log: &mut SearchLog<L>,
@@ -91,13 +120,8 @@ fn of_row<P: ParityEngine, L: Sink<Item = LogEvent>>(
         let ending = end_of_row(log.alloc, log.formula, state, reason)?;
         return Ok(Conclusion::Ending(ending));
     }
-    let mut rows = Vec::new(log.alloc);
-    match tell_reason(log, state, engine, reason, &mut rows) {
-        Ok(lits) => Ok(Conclusion::Clause(Conflict {
-            lits,
-            id: first_id_of_rows(state.next),
-            rows,
-        })),
+    match told_row(log, state, engine, reason) {
+        Ok(conflict) => Ok(Conclusion::Clause(conflict)),
         Err(fault) => Err(fault),
     }
 }

@@ -4,6 +4,7 @@ ghost use Rattle.cx_base.specs.Literals.{Literal};
 ghost use Rattle.cx_semantics.specs.Chain.{has_literal};
 ghost use Rattle.cx_trail.specs.Sequence.{IsTrueIn};
 ghost use Rattle.cx_base.specs.Integers.{integers_of, literals};
+ghost use Rattle.cx_base.specs.Numbers.{AreStepIntegers};
 ghost use Rattle.cx_base.specs.declared.steps.LogEvent.TheVariants as event;
 ghost use Rattle.cx_base.specs.declared.steps.LogStep.TheVariants as step;
 ghost use Rattle.conflict_learn.specs.Faults.{fault_in};
@@ -57,21 +58,20 @@ fn steps_of_learned(
     Ok(steps)
 }
 
-/// The hints of a learned clause: the ids of the clauses that implied the resolved literals, the last one's first, and then the conflict's.
+/// The ids of the clauses that implied the resolved literals, the last one's first.
 ///
 /// The clauses of rows were told in the order of these literals, and the log has this many.
-pub(crate) fn hints_of_lesson(
+pub(crate) fn hints_of_resolved(
     alloc: Global,
     state: &SearchState,
     resolved: &[Lit],
     rows: usize,
-    conflict: u64,
-) -> Result<IntList, AllocError>
+) -> Result<Vec<i64>, AllocError>
     requires ids { HasIds state.now }
     requires rows { AreIdsFrom (first_row_id state.now.next) rows }
-    requires conflict { IsId conflict }
     requires stand { (l : Literal) → IsTrue (has_literal resolved.now l) → IsTrueIn state.now.trail.entries l }
     requires reasons { (e : State) × HaveReasons state.now e }
+    ensures { IfOk result (λ hints. AreStepIntegers hints.items) }
 {
     let mut hints = Vec::with_capacity(alloc, resolved.len())?;
     let first = first_id_of_rows(state.next);
@@ -85,6 +85,26 @@ pub(crate) fn hints_of_lesson(
         }
         push_hint(&mut hints, silent.unwrap_or(first + behind as u64))?;
     }
+    Ok(hints)
+}
+
+/// The hints of a learned clause: the ids of the clauses that implied the resolved literals, the last one's first, and then the conflict's.
+///
+/// The log has this many clauses of rows.
+pub(crate) fn hints_of_lesson(
+    alloc: Global,
+    state: &SearchState,
+    resolved: &[Lit],
+    rows: usize,
+    conflict: u64,
+) -> Result<IntList, AllocError>
+    requires ids { HasIds state.now }
+    requires rows { AreIdsFrom (first_row_id state.now.next) rows }
+    requires conflict { IsId conflict }
+    requires stand { (l : Literal) → IsTrue (has_literal resolved.now l) → IsTrueIn state.now.trail.entries l }
+    requires reasons { (e : State) × HaveReasons state.now e }
+{
+    let mut hints = hints_of_resolved(alloc, state, resolved, rows)?;
     push_hint(&mut hints, conflict)?;
     Ok(IntList::from_vec(hints))
 }

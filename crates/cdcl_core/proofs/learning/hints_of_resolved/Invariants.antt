@@ -1,6 +1,6 @@
 use Rattle.std.proofs.Common.{◌≤◌, length}
 use Rattle.cx_base.specs.Numbers.{AreStepIntegers}
-use Rattle.cdcl_core.proofs.learning.hints_of_lesson.Given as goal
+use Rattle.cdcl_core.proofs.learning.hints_of_resolved.Given as goal
 
 abbrev pub invariant-loop-left : goal.invariant-loop-left
 invariant-loop-left l = record {
