@@ -23,7 +23,7 @@ alone_implied t l clause is p less same = record {
   ];
 }
 
-both_assumed_clash : (constraints : List Constraint) (l : Literal) → assumes constraints l ≡ true → assumes constraints (negate l) ≡ true → clashes constraints ≡ true
+pub both_assumed_clash : (constraints : List Constraint) (l : Literal) → assumes constraints l ≡ true → assumes constraints (negate l) ≡ true → clashes constraints ≡ true
 both_assumed_clash constraints l h k = both_clash constraints l.variable (
     elim l.negative as (λ b. assumes constraints (record { variable = l.variable; negative = b }) ≡ true → assumes constraints (record { variable = l.variable; negative = Rattle.std.proofs.Common.not b }) ≡ true
     → (assumes constraints (positive_of l.variable) && assumes constraints (negative_of l.variable)) ≡ true) [

@@ -11,6 +11,8 @@ pub mod ClashLaws
 pub mod ShortForms
 pub mod ShortLaws
 pub mod ShortSteps
+pub mod LateSteps
+pub mod LateLaws
 pub mod KnownLaws
 pub mod ConflictLaws
 pub mod Answering

@@ -46,7 +46,7 @@ last_two before units a b = append_assoc (before ++ units) (a ∷ []) (b ∷ [])
 pub next_of : {X : Type 0} (xs : List X) (i : ℕ) (x : X) → i < length xs → x ≡ get_or xs i x → take (i + 1) xs ≡ take i xs ++ x ∷ []
 next_of xs i x less at = ap (λ n. take n xs) (let e : i + 1 ≡ suc i = omega arith in e) ∙ take-suc xs i x less ∙ ap (λ y. take i xs ++ y ∷ []) (sym at)
 
-taken_count : {X : Type 0} (xs : List X) (i : ℕ) → i < length xs → length (take i xs) ≡ i
+pub taken_count : {X : Type 0} (xs : List X) (i : ℕ) → i < length xs → length (take i xs) ≡ i
 taken_count xs i less = let long = length-take i xs in omega (arith, long, less)
 
 -- the parity of the next unit

@@ -1,11 +1,11 @@
 -- Rows without the literals that unit clauses of level 0 make false.
-use Rattle.std.specs.Prelude.{◌≡◌, ◌≢◌, ◌⊎◌, ℕ, ◌+◌, ◌<◌, List, [], ◌∷◌, ◌++◌, length, get_or, Option, None}
+use Rattle.std.specs.Prelude.{◌≡◌, ◌≢◌, ◌⊎◌, ℕ, ◌+◌, ◌<◌, ℤ, List, [], ◌∷◌, ◌++◌, length, get_or, Option, None}
 use Rattle.std.specs.List.{AllByRecursion, range_with_len}
 use Rattle.cx_base.specs.Literals.{Literal, negate}
 use Rattle.cx_base.specs.Integers.{integer_of, integers_of}
 use Rattle.cx_base.specs.declared.steps.LogEvent.{LogEvent}
 use Rattle.cx_base.specs.declared.steps.LogEvent.TheVariants.{Step}
-use Rattle.cx_base.specs.declared.steps.LogStep.TheVariants.{ParityOfClauses}
+use Rattle.cx_base.specs.declared.steps.LogStep.TheVariants.{ClauseWithHints, ParityOfClauses}
 use Rattle.cx_semantics.specs.Chain.{negations}
 use Rattle.cx_trail.specs.Sequence.{entry_at, IsTrueIn}
 use Rattle.xor_reason.specs.declared.reason.ReasonOf.{ReasonOf}
@@ -58,6 +58,26 @@ pub record EndsByRow (c : SearchState) (constraints : ℕ) (reason : ReasonOf) (
   pub short : Shortened
   pub shortened : IsShortened c reason.clause short
   pub ends : EndsBy constraints (first_row_id c.next) reason.sources short [] e
+
+-- unit clauses of the negations of these literals, under the ids from the first one on
+abbrev pub late_units_from : ℕ → List Literal → List UnitClause
+late_units_from n [] = []
+late_units_from n (l ∷ lits) = record { literal = negate l; id = n } ∷ late_units_from (n + 1) lits
+
+-- these unit clauses, each by a chain with these hints
+abbrev pub late_unit_events : List ℤ → List UnitClause → List LogEvent
+late_unit_events hints [] = []
+late_unit_events hints (u ∷ us) = Step (ClauseWithHints u.id (integer_of u.literal ∷ []) hints) ∷ late_unit_events hints us
+
+-- Steps that end the log by a row's clause, of whose literals none is left: those that no unit clause made false get one, after this many clauses of rows.
+pub record EndsByUnits (c : SearchState) (constraints rows : ℕ) (reason : ReasonOf) (e : Ending) : Type 0 where
+  pub short : Shortened
+  pub shortened : IsShortened c reason.clause short
+  pub hints : List ℤ
+  pub last : Shortened
+  pub units : last.units.items ≡ short.units.items ++ late_units_from (first_row_id c.next + rows) short.left
+  pub nothing : last.left ≡ []
+  pub ends : EndsBy constraints (first_row_id c.next + rows + length short.left) reason.sources last (late_unit_events hints (late_units_from (first_row_id c.next + rows) short.left)) e
 
 -- What fails is short: for none of these a unit clause of level 0 was told; and where a row is not met, each is true.
 pub record AreShort (c : SearchState) (kept : Option Literal) (failed : List Literal) : Type 0 where

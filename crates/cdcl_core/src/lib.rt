@@ -15,6 +15,7 @@ mod originals;
 mod preferring;
 mod recovering;
 mod reducing;
+mod refuted_rows;
 mod refuting;
 mod restarting;
 mod schedule;

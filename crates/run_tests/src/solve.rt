@@ -198,7 +198,7 @@ fn assumed_literals_that_fail_are_told(rt: HostRuntime) -> Result<(), Fail> {
 }
 
 /// Formulas that propagation refutes at level 0, with assumptions that have no part in it, also where one is false there.
-const REFUTED_ALONE: [Case; 8] = [
+const REFUTED_ALONE: [Case; 9] = [
     (
         "p cnf 2 2\n0\na 1 -2 0\n",
         "1",
@@ -237,6 +237,13 @@ const REFUTED_ALONE: [Case; 8] = [
     ),
     (
         "p cnf 3 5\n1 0\nx1 2 0\n2 3 0\n2 -3 0\na -3 -1 0\n",
+        "1",
+        20,
+        "s UNSATISFIABLE\nc failed 0\n",
+    ),
+    // 1 contradicts an assumed literal, and after it each literal of the parity is implied, which is assumed
+    (
+        "p cnf 3 5\n1 0\n-1 2 0\n-1 3 0\nx2 3 0\na -1 2 3 0\n",
         "1",
         20,
         "s UNSATISFIABLE\nc failed 0\n",

@@ -12,7 +12,7 @@ pub conclude_refuted-requires-clause-refuted : goal.conclude_refuted-requires-cl
 conclude_refuted-requires-clause-refuted g c = c.is_refuted.ensures.refuted c.if-is_refuted.true
 
 pub returns-then-is_refuted-clause-none : goal.returns-then-is_refuted-clause-none
-returns-then-is_refuted-clause-none g c = λ of r. c.conclude_refuted.ensures.none of
+returns-then-is_refuted-clause-none g c = λ r. c.conclude_refuted.ensures.none
 
 pub returns-clause-ends : goal.returns-clause-ends
 returns-clause-ends g c = record {
@@ -21,7 +21,7 @@ returns-clause-ends g c = record {
 }
 
 pub returns-clause-none : goal.returns-clause-none
-returns-clause-none g c = λ of r. absurd (c.is_refuted.ensures.other c.if-is_refuted.false r)
+returns-clause-none g c = λ r. absurd (c.is_refuted.ensures.other c.if-is_refuted.false r)
 
 pub end-requires-clause-at : goal.end-requires-clause-at
 end-requires-clause-at g c =
