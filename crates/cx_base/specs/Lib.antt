@@ -14,5 +14,6 @@ pub mod Counts
 pub mod Moved
 pub mod Endings
 pub mod Events
+pub mod Lines
 pub mod ExactlyOne
 pub mod Integers

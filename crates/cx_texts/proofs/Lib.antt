@@ -7,6 +7,7 @@ pub mod FrontLaws
 pub mod Grammars
 pub mod LaterPlaces
 pub mod Lines
+pub mod LogLines
 pub mod LogSteps
 pub mod MoveTexts
 pub mod PieceLaws

@@ -26,31 +26,34 @@ Words m text = flat_map event_words_of_line (lines_from m text)
 one_line : (m : ℕ) (l rest : List ℕ) → NoFeed l → Words m ((l ++ 10 ∷ []) ++ rest) ≡ event_words_of_line (enumerate_from m l) ++ Words ((m + length l) + 1) rest
 one_line m l rest h = ap (Words m) (append_assoc l (10 ∷ []) rest) ∙ ap (flat_map event_words_of_line) (lines-line m l rest h)
 
-said_line : (m c : ℕ) (line : List ℕ) → is_blank c ≡ false → (c == 99) ≡ false → event_words_of_line (enumerate_from m (c ∷ line)) ≡ placed_words (tokens_of_line (enumerate_from m (c ∷ line)))
-said_line m c line h k =
-    let e : is_comment (enumerate_from m (c ∷ line)) ≡ false = ap (λ x. cond x (begins_with 99 (enumerate_from (m + 1) line)) (c == 99)) h ∙ k in
-    ap (λ x. elim x [ true ↦ conflict_or [] m (conflict_number (tokens_of_line (enumerate_from m (c ∷ line)))) | false ↦ placed_words (tokens_of_line (enumerate_from m (c ∷ line))) ]) e
+-- what does not begin with the byte 99 is no comment
+no_comment : (m c : ℕ) (line : List ℕ) → is_blank c ≡ false → (c == 99) ≡ false → is_comment (enumerate_from m (c ∷ line)) ≡ false
+no_comment m c line h k = ap (λ x. cond x (begins_with 99 (enumerate_from (m + 1) line)) (c == 99)) h ∙ k
 
-said_letters : (m c : ℕ) (ws : List Word) → is_blank c ≡ false → (c == 99) ≡ false → event_words_of_line (enumerate_from m (joined (letter c ∷ ws))) ≡ placed_words (tokens_of_line (enumerate_from m (joined (letter c ∷ ws))))
-said_letters m c [] h k = said_line m c [] h k
-said_letters m c (w ∷ ws) h k = said_line m c (32 ∷ joined (w ∷ ws)) h k
+letters_no_comment : (m c : ℕ) (ws : List Word) → is_blank c ≡ false → (c == 99) ≡ false → is_comment (enumerate_from m (joined (letter c ∷ ws))) ≡ false
+letters_no_comment m c [] h k = no_comment m c [] h k
+letters_no_comment m c (w ∷ ws) h k = no_comment m c (32 ∷ joined (w ∷ ws)) h k
 
-said_first : (m : ℕ) (w : Word) (ws : List Word) → IsFirst w → event_words_of_line (enumerate_from m (joined (w ∷ ws))) ≡ placed_words (tokens_of_line (enumerate_from m (joined (w ∷ ws))))
-said_first m w ws (inl e) = subst (λ x. event_words_of_line (enumerate_from m (joined (x ∷ ws))) ≡ placed_words (tokens_of_line (enumerate_from m (joined (x ∷ ws))))) (sym e) (said_letters m 111 ws refl refl)
-said_first m w ws (inr (inl e)) = subst (λ x. event_words_of_line (enumerate_from m (joined (x ∷ ws))) ≡ placed_words (tokens_of_line (enumerate_from m (joined (x ∷ ws))))) (sym e) (said_letters m 97 ws refl refl)
-said_first m w ws (inr (inr (inl e))) = subst (λ x. event_words_of_line (enumerate_from m (joined (x ∷ ws))) ≡ placed_words (tokens_of_line (enumerate_from m (joined (x ∷ ws))))) (sym e) (said_letters m 105 ws refl refl)
-said_first m w ws (inr (inr (inr (inl e)))) = subst (λ x. event_words_of_line (enumerate_from m (joined (x ∷ ws))) ≡ placed_words (tokens_of_line (enumerate_from m (joined (x ∷ ws))))) (sym e) (said_letters m 100 ws refl refl)
-said_first m w ws (inr (inr (inr (inr (inl e))))) = subst (λ x. event_words_of_line (enumerate_from m (joined (x ∷ ws))) ≡ placed_words (tokens_of_line (enumerate_from m (joined (x ∷ ws))))) (sym e) (said_letters m 102 ws refl refl)
-said_first m w ws (inr (inr (inr (inr (inr e))))) = subst (λ x. event_words_of_line (enumerate_from m (joined (x ∷ ws))) ≡ placed_words (tokens_of_line (enumerate_from m (joined (x ∷ ws))))) (sym e) (said_letters m 114 ws refl refl)
+first_no_comment : (m : ℕ) (w : Word) (ws : List Word) → IsFirst w → is_comment (enumerate_from m (joined (w ∷ ws))) ≡ false
+first_no_comment m w ws (inl e) = subst (λ x. is_comment (enumerate_from m (joined (x ∷ ws))) ≡ false) (sym e) (letters_no_comment m 111 ws refl refl)
+first_no_comment m w ws (inr (inl e)) = subst (λ x. is_comment (enumerate_from m (joined (x ∷ ws))) ≡ false) (sym e) (letters_no_comment m 97 ws refl refl)
+first_no_comment m w ws (inr (inr (inl e))) = subst (λ x. is_comment (enumerate_from m (joined (x ∷ ws))) ≡ false) (sym e) (letters_no_comment m 105 ws refl refl)
+first_no_comment m w ws (inr (inr (inr (inl e)))) = subst (λ x. is_comment (enumerate_from m (joined (x ∷ ws))) ≡ false) (sym e) (letters_no_comment m 100 ws refl refl)
+first_no_comment m w ws (inr (inr (inr (inr (inl e))))) = subst (λ x. is_comment (enumerate_from m (joined (x ∷ ws))) ≡ false) (sym e) (letters_no_comment m 102 ws refl refl)
+first_no_comment m w ws (inr (inr (inr (inr (inr e))))) = subst (λ x. is_comment (enumerate_from m (joined (x ∷ ws))) ≡ false) (sym e) (letters_no_comment m 114 ws refl refl)
 
-step_said : (m : ℕ) (s : LogStep) → event_words_of_line (enumerate_from m (joined (spelling log_steps s))) ≡ placed_words (tokens_of_line (enumerate_from m (joined (spelling log_steps s))))
-step_said m s =
+pub step_no_comment : (m : ℕ) (s : LogStep) → is_comment (enumerate_from m (joined (spelling log_steps s))) ≡ false
+step_no_comment m s =
     let o = first_of s [] in
     let e : spelling log_steps s ≡ o.0 ∷ o.1 = sym (append-nil (spelling log_steps s)) ∙ o.3 in
-    subst (λ ws. event_words_of_line (enumerate_from m (joined ws)) ≡ placed_words (tokens_of_line (enumerate_from m (joined ws)))) (sym e) (said_first m o.0 o.1 o.2)
+    subst (λ ws. is_comment (enumerate_from m (joined ws)) ≡ false) (sym e) (first_no_comment m o.0 o.1 o.2)
+
+said_line : (line : List (ℕ × ℕ)) → is_comment line ≡ false → event_words_of_line line ≡ placed_words (tokens_of_line line)
+said_line [] h = refl
+said_line (b ∷ line) h = ap (λ x. elim x [ true ↦ conflict_or [] b.0 (conflict_number (tokens_of_line (b ∷ line))) | false ↦ placed_words (tokens_of_line (b ∷ line)) ]) h
 
 step_words : (m : ℕ) (s : LogStep) → AllByRecursion (IsWithin 9223372036854775807) (spelling log_steps s) → words (event_words_of_line (enumerate_from m (joined (spelling log_steps s)))) ≡ spelling log_steps s
-step_words m s h = ap words (step_said m s) ∙ words-printed m (spelling log_steps s) (plain_all _ (spoken_log_step s) h)
+step_words m s h = ap words (said_line (enumerate_from m (joined (spelling log_steps s))) (step_no_comment m s)) ∙ words-printed m (spelling log_steps s) (plain_all _ (spoken_log_step s) h)
 
 -- ---- a printed mark
 
@@ -68,10 +71,10 @@ number_of_texts (a ∷ b ∷ d ∷ f ∷ ts) k e = cc
 small_mark : (k : ℕ) → k < 2 ^ 64 → k < 10 ^ 64
 small_mark k h = lt_trans h (lit< tt)
 
-abbrev mark_pieces : ℕ → List (List ℕ)
+abbrev pub mark_pieces : ℕ → List (List ℕ)
 mark_pieces k = codes "c" ∷ codes "conflict" ∷ decimal k ∷ []
 
-are_pieces : (k : ℕ) → k < 2 ^ 64 → AllByRecursion IsPiece (mark_pieces k)
+pub are_pieces : (k : ℕ) → k < 2 ^ 64 → AllByRecursion IsPiece (mark_pieces k)
 are_pieces k h = (
   record { first = 99; rest = []; is = refl; no_blank = (refl, tt) },
   (
@@ -127,44 +130,54 @@ event_first len placed (Conflict k ∷ events) (more, sp, r) p rest e = go sp.fr
         inr (k, ap (λ z. z.word) n ∙ y)
 event_first len placed (Step s ∷ events) (more, sp, r) p rest e = inl (first_word s placed sp.front more p rest sp.step sp.split e)
 
-event_stops : (len : ℕ) (e : LogEvent) (ws : List Word) (rest : List Placed) (events : List LogEvent) → IsStep log_events ws e → Reading log_events len rest events finished → Stops log_events ws rest
+pub event_stops : (len : ℕ) (e : LogEvent) (ws : List Word) (rest : List Placed) (events : List LogEvent) → IsStep log_events ws e → Reading log_events len rest events finished → Stops log_events ws rest
 event_stops len e ws [] events h r = tt
 event_stops len e ws (p ∷ rest) events h r = no_more_event e ws p.word h (event_first len (p ∷ rest) events r p rest refl)
 
-reading_printed : (len m : ℕ) (events : List LogEvent) → AllByRecursion HasText events → Reading log_events len (Words m (printed_log events)) events finished
-reading_printed len m [] h = refl
-reading_printed len m (Conflict k ∷ events) h =
-    let line = join_with_byte 32 (mark_pieces k) in
-    let next : ℕ = (m + length line) + 1 in
-    let more = reading_printed len next events h.1 in
+-- the words of an event's line
+abbrev pub line_text : LogEvent → List ℕ
+line_text e = joined (spelling log_events e)
+
+pub no_feed_event : (e : LogEvent) → HasText e → NoFeed (line_text e)
+no_feed_event (Step s) h = no_feed_joined (map printed_word (spelling log_steps s)) (plain_pieces _ (plain_all (spelling log_steps s) (spoken_log_step s) h.1))
+no_feed_event (Conflict k) h = no_feed_joined (mark_pieces k) (are_pieces k h)
+
+-- the words of an event's line before those of others are read as the event before the others
+pub event_on : (len m : ℕ) (e : LogEvent) (placed : List Placed) (events : List LogEvent) → HasText e → Reading log_events len placed events finished
+    → Reading log_events len (event_words_of_line (enumerate_from m (line_text e)) ++ placed) (e ∷ events) finished
+event_on len m (Conflict k) placed events h more =
     let step : IsStep log_events (conflict k ∷ []) (Conflict k) = ((tt, tt), refl) in (
-      Words next (printed_log events),
+      placed,
       record {
         front = record { place = m; word = conflict k } ∷ [];
-        split = one_line m line (printed_log events) (no_feed_joined (mark_pieces k) (are_pieces k h.0)) ∙ ap (λ x. x ++ Words next (printed_log events)) (mark_word m k h.0);
+        split = ap (λ x. x ++ placed) (mark_word m k h);
         step = step;
         within = (tt, tt);
-        stops = event_stops len (Conflict k) (conflict k ∷ []) (Words next (printed_log events)) events step more;
+        stops = event_stops len (Conflict k) (conflict k ∷ []) placed events step more;
       },
       more,
     )
-reading_printed len m (Step s ∷ events) h =
-    let line = joined (spelling log_steps s) in
-    let next : ℕ = (m + length line) + 1 in
-    let more = reading_printed len next events h.1 in
-    let front = event_words_of_line (enumerate_from m line) in
-    let is : words front ≡ spelling log_steps s = step_words m s h.0.1 in
-    let step : IsStep log_events (words front) (Step s) = (h.0.0, sym is) in (
-      Words next (printed_log events),
+event_on len m (Step s) placed events h more =
+    let front = event_words_of_line (enumerate_from m (joined (spelling log_steps s))) in
+    let is : words front ≡ spelling log_steps s = step_words m s h.1 in
+    let step : IsStep log_events (words front) (Step s) = (h.0, sym is) in (
+      placed,
       record {
         front = front;
-        split = one_line m line (printed_log events) (no_feed_joined (map printed_word (spelling log_steps s)) (plain_pieces _ (plain_all _ (spoken_log_step s) h.0.1)));
+        split = refl;
         step = step;
-        within = within_words log_events front (subst (AllByRecursion (IsWithin 9223372036854775807)) (sym is) h.0.1);
-        stops = event_stops len (Step s) (words front) (Words next (printed_log events)) events step more;
+        within = within_words log_events front (subst (AllByRecursion (IsWithin 9223372036854775807)) (sym is) h.1);
+        stops = event_stops len (Step s) (words front) placed events step more;
       },
       more,
     )
+
+reading_printed : (len m : ℕ) (events : List LogEvent) → AllByRecursion HasText events → Reading log_events len (Words m (printed_log events)) events finished
+reading_printed len m [] h = refl
+reading_printed len m (e ∷ events) h =
+    let next : ℕ = (m + length (line_text e)) + 1 in
+    subst (λ x. Reading log_events len x (e ∷ events) finished) (sym (one_line m (line_text e) (printed_log events) (no_feed_event e h.0)))
+    (event_on len m e (Words next (printed_log events)) events h.0 (reading_printed len next events h.1))
 
 pub printed_log_reads : (events : List LogEvent) → AllByRecursion HasText events → EventsRead (printed_log events) events finished
 printed_log_reads events h = reading_printed (length (printed_log events)) 0 events h

@@ -3,6 +3,7 @@ pub mod FormulaText
 pub mod Grammar
 pub mod LiteralTokens
 pub mod LogText
+pub mod LogLines
 pub mod Printed
 pub mod ProofText
 pub mod Tokens

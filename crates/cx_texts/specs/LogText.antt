@@ -38,6 +38,14 @@ abbrev pub conflict_number : List Token → Option ℕ
 conflict_number (c ∷ word ∷ number ∷ []) = elim (bytes_eq c.text (codes "c") && bytes_eq word.text (codes "conflict")) [ true ↦ natural number.text | false ↦ None ]
 conflict_number _ = None
 
+-- A line whose tokens are `c`, `tidy` and a number says that the clauses are tidy. It is passed over among the events.
+abbrev pub tidy_number : List Token → Option ℕ
+tidy_number (c ∷ word ∷ number ∷ []) = elim (bytes_eq c.text (codes "c") && bytes_eq word.text (codes "tidy")) [ true ↦ natural number.text | false ↦ None ]
+tidy_number _ = None
+
+abbrev pub tidy_of_line : List (ℕ × ℕ) → Option ℕ
+tidy_of_line line = elim (is_comment line) [ true ↦ tidy_number (tokens_of_line line) | false ↦ None ]
+
 abbrev pub conflict_or : List Placed → ℕ → Option ℕ → List Placed
 conflict_or placed place (Some k) = record { place = place; word = conflict k } ∷ []
 conflict_or placed place None = placed

@@ -4,6 +4,7 @@ use Rattle.std.specs.List.{join_with_byte, AllByRecursion}
 use Rattle.cx_base.specs.declared.steps.ProofStep.{ProofStep}
 use Rattle.cx_base.specs.declared.steps.LogEvent.{LogEvent}
 use Rattle.cx_base.specs.declared.steps.LogEvent.TheVariants.{Step, Conflict}
+use Rattle.cx_base.specs.Lines.{Line, item, tidy}
 use Rattle.cx_texts.specs.Words.{Word, number, letter, conflict, other, IsWithin}
 use Rattle.cx_texts.specs.Grammar.{spelling, IsProper}
 use Rattle.cx_texts.specs.ProofText.{proof_steps, proof_fields}
@@ -29,10 +30,23 @@ printed_proof steps = flat_map (λ s. printed_line (spelling proof_steps s)) ste
 abbrev pub printed_log : List LogEvent → List ℕ
 printed_log events = flat_map (λ e. printed_line (spelling log_events e)) events
 
+-- the line of an event, or the line `c tidy R`; and these one after another
+abbrev pub printed_log_line : Line LogEvent → List ℕ
+printed_log_line (item e) = printed_line (spelling log_events e)
+printed_log_line (tidy r) = codes "c tidy " ++ (decimal r ++ 10 ∷ [])
+
+abbrev pub printed_lines : List (Line LogEvent) → List ℕ
+printed_lines lines = flat_map printed_log_line lines
+
 -- events that a text can have: proper fields within the limit, and marks of 64 bits
 abbrev pub HasText : LogEvent → Type 0
 HasText (Step step) = AllByRecursion IsProper (log_fields step) × AllByRecursion (IsWithin log_steps.limit) (spelling log_steps step)
 HasText (Conflict k) = k < 2 ^ 64
+
+-- lines that a text can have: such events, and numbers of 64 bits
+abbrev pub LineHasText : Line LogEvent → Type 0
+LineHasText (item e) = HasText e
+LineHasText (tidy r) = r < 2 ^ 64
 
 -- steps that a text can have
 abbrev pub HasProofText : ProofStep → Type 0
