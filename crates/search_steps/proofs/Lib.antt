@@ -24,3 +24,4 @@ pub mod OverSearch
 pub mod RoundEnds
 pub mod Propagation
 pub mod Reasons
+pub mod TidyLineLaws

@@ -38,6 +38,8 @@ use Rattle.search_steps.specs.Recovering.{IsParityOf, HasRecovered, SettledWithR
 use Rattle.search_steps.specs.Search.{Search, IsSearch, IsServed, IsTidy, IsLearnedOf, told, decided_on, forced_on, jumped, marked}
 use Rattle.search_steps.specs.Start.{IsBegun, start}
 use Rattle.search_steps.specs.Tied.{IsTied, AreForcedBehind, IsLiveSet, Mirrors, ForcesOn, IsQuietOn, AreOthersFalseOn, IsFalsifiedOn}
+use Rattle.cx_base.specs.Lines.{Line}
+use Rattle.search_steps.specs.TidyLines.{TidiedInTime, LineFits, marks_in, tidy_lines_in}
 use Rattle.search_steps.specs.Trail.{Entry, by_clause, by_row, rests_on, held, all_held, back_to, level_of, IsUnassigned, Forces}
 
 -- a law of each search that holds
@@ -446,3 +448,12 @@ RecoveredTakesOne =
 abbrev pub SumsAreFreeAgain : Type 0
 SumsAreFreeAgain =
     (count : ℕ) (s : Search) (k : ℕ) (rs : List ℤ) (ids : List ℕ) (n : ℕ) (zs : List ℤ) → HasFreeSums count s.moment → HasFreeSums count (all_told s (row_events k rs ids n zs)).moment
+
+-- ---- tidy lines
+-- one more line that fits
+abbrev pub TidyLinesGoOn : Type 0
+TidyLinesGoOn = (lines : List (Line LogEvent)) (l : Line LogEvent) → TidiedInTime lines → LineFits lines l → TidiedInTime (lines ++ l ∷ [])
+
+-- before the hundredth mark there is no tidy line
+abbrev pub TidyLinesComeLate : Type 0
+TidyLinesComeLate = (lines : List (Line LogEvent)) → TidiedInTime lines → marks_in lines < 100 → tidy_lines_in lines ≡ 0

@@ -1,5 +1,5 @@
 //! The laws of the search's steps. Each function's contract is the law, and its body is empty.
-ghost use Rattle.search_steps.specs.Laws.{AnswersHold, AssignedValuesHold, AssumptionsAreNotTold, BegunIsRanged, BegunIsSearch, BoundsRise, ChainedClausesEnd, ClauseConflictsAreNow, ClauseStepsKeep, DecisionsKeep, DeletionsKeep, EndedIsUnmet, FalsifiedHasChain, FinalHasChain, ForcedIsImplied, FreshEnginesHold, FullIsMet, HighIsNoReason, HighIsNotAmong, ImpliedClausesRest, JumpsKeep, JumpsStayTied, KnownIsTrue, LargerClausesRest, LastStepsEnd, LateUnitsKeep, LaterEntriesGo, LearnedClausesKeep, LearnedDeletionsKeep, LearnedHasChain, MarksKeep, NewLevelsHold, NextIdsAreFree, NoValueIsOpen, NothingIsBegun, OpenHasNoValue, OriginalClausesAreTold, OriginalParitiesAreTold, OtherTrailsKeepRanges, PropagationsKeep, RecoveredParitiesJoin, RecoveredTakesOne, RoundsAreTidy, RoundsKeep, RoundsKeepRanges, RoundsStayTied, RowClausesEnd, RowClausesKeep, RowConflictsAreNow, RowIdsAreTemporary, RowReasonsKeep, RowReasonsServe, RowStepsKeep, RowsAreOfParities, SearchesAreOpen, SettledWantsNoDecision, SilentIsQuiet, StoredForces, StoredIsFalse, StoredRests, SumDeletionsKeep, SumsAreFreeAgain, SumsAreFreeAtFirst, SumsKeep, TaughtIsLearned, TheirsAreHad, ToldStepsKeepRanges, TrailStepsKeepRanges, TrailsHaveNoClash, UnitParitiesKeep, UnitsKeep, ValuesTakenBackHold, WatchedIsQuiet};
+ghost use Rattle.search_steps.specs.Laws.{AnswersHold, AssignedValuesHold, AssumptionsAreNotTold, BegunIsRanged, BegunIsSearch, BoundsRise, ChainedClausesEnd, ClauseConflictsAreNow, ClauseStepsKeep, DecisionsKeep, DeletionsKeep, EndedIsUnmet, FalsifiedHasChain, FinalHasChain, ForcedIsImplied, FreshEnginesHold, FullIsMet, HighIsNoReason, HighIsNotAmong, ImpliedClausesRest, JumpsKeep, JumpsStayTied, KnownIsTrue, LargerClausesRest, LastStepsEnd, LateUnitsKeep, LaterEntriesGo, LearnedClausesKeep, LearnedDeletionsKeep, LearnedHasChain, MarksKeep, NewLevelsHold, NextIdsAreFree, NoValueIsOpen, NothingIsBegun, OpenHasNoValue, OriginalClausesAreTold, OriginalParitiesAreTold, OtherTrailsKeepRanges, PropagationsKeep, RecoveredParitiesJoin, RecoveredTakesOne, RoundsAreTidy, RoundsKeep, RoundsKeepRanges, RoundsStayTied, RowClausesEnd, RowClausesKeep, RowConflictsAreNow, RowIdsAreTemporary, RowReasonsKeep, RowReasonsServe, RowStepsKeep, RowsAreOfParities, SearchesAreOpen, SettledWantsNoDecision, SilentIsQuiet, StoredForces, StoredIsFalse, StoredRests, SumDeletionsKeep, SumsAreFreeAgain, SumsAreFreeAtFirst, SumsKeep, TaughtIsLearned, TheirsAreHad, TidyLinesComeLate, TidyLinesGoOn, ToldStepsKeepRanges, TrailStepsKeepRanges, TrailsHaveNoClash, UnitParitiesKeep, UnitsKeep, ValuesTakenBackHold, WatchedIsQuiet};
 
 /// At the start nothing is told.
 pub fn nothing_is_begun()
@@ -364,4 +364,14 @@ pub fn recovered_takes_one()
 /// After the reason of a row the id of its sum is free again.
 pub fn sums_are_free_again()
     ensures { SumsAreFreeAgain }
+{}
+
+/// Lines that are tidied in time go on by one that fits them.
+pub fn tidy_lines_go_on()
+    ensures { TidyLinesGoOn }
+{}
+
+/// A log that is tidied in time has no tidy line before its hundredth mark.
+pub fn tidy_lines_come_late()
+    ensures { TidyLinesComeLate }
 {}

@@ -1,0 +1,66 @@
+-- Where a log says that its clauses are tidy.
+use Rattle.std.specs.Prelude.{◌≡◌, ◌≢◌, ℕ, zero, suc, ◌+◌, ◌*◌, ◌≤◌, List, ◌∷◌, ◌++◌, fold, filter_map, length, Option, Some, None, IsFalse, Contains, ⊤}
+use Rattle.cx_base.specs.Literals.{Literal}
+use Rattle.cx_base.specs.Lines.{Line, item, tidy, items_of}
+use Rattle.cx_base.specs.declared.steps.LogEvent.{LogEvent}
+use Rattle.cx_base.specs.declared.steps.LogEvent.TheVariants.{Step, Conflict}
+use Rattle.cx_semantics.specs.Marked.{Moment, first_moment, after_event, mark_of, clause_at}
+use Rattle.cx_semantics.specs.Tables.{Table, get}
+use Rattle.search_policy.specs.Restarts.{IsLuby}
+use Rattle.tidy_rules.specs.Tidied.{TidiedBy}
+
+-- the sum of the first r of Luby's numbers
+abbrev pub IsLubySum : ℕ → ℕ → Type 0
+IsLubySum zero total = total ≡ 0
+IsLubySum (suc r) total = (before : ℕ) × (v : ℕ) × IsLubySum r before × IsLuby (suc r) v × (total ≡ before + v)
+
+-- restart r is due at mark m, after a hundred conflicts for each one of these numbers
+abbrev pub IsRestartAt : ℕ → ℕ → Type 0
+IsRestartAt r m = (total : ℕ) × IsLubySum r total × (m ≡ 100 * total)
+
+-- what the next event finds, how many marks there are, and how many tidy lines
+abbrev pub moment_after : List (Line LogEvent) → Moment
+moment_after lines = fold after_event first_moment (items_of lines)
+
+abbrev pub marks_in : List (Line LogEvent) → ℕ
+marks_in lines = length (filter_map mark_of (items_of lines))
+
+abbrev pub restart_of : Line LogEvent → Option ℕ
+restart_of (item event) = None
+restart_of (tidy r) = Some r
+
+abbrev pub tidy_lines_in : List (Line LogEvent) → ℕ
+tidy_lines_in lines = length (filter_map restart_of lines)
+
+-- the list has two different literals
+pub record HasTwo (lits : List Literal) : Type 0 where
+  pub first : Literal
+  pub second : Literal
+  pub has_first : Contains lits first
+  pub has_second : Contains lits second
+  pub differ : first ≢ second
+
+-- the live clauses with two different literals are tidy
+abbrev pub AreTidyClauses : Table → Type 0
+AreTidyClauses table = TidiedBy (λ n. (clause : List Literal) × (get table n ≡ Some clause) × HasTwo clause) (clause_at table)
+
+-- Tidy line r is the r-th. It comes at the mark where its restart is due, after the clause of that mark, and the clauses are tidy there.
+pub record TidyFits (front : List (Line LogEvent)) (r : ℕ) : Type 0 where
+  pub next : r ≡ tidy_lines_in front + 1
+  pub due : IsRestartAt r (marks_in front)
+  pub served : IsFalse (moment_after front).awaits
+  pub tidied : AreTidyClauses (moment_after front).tables.clauses
+
+-- the tidy line of each restart that was due by these marks is there
+abbrev pub NoneIsMissing : List (Line LogEvent) → Type 0
+NoneIsMissing front = (r m : ℕ) → IsRestartAt r m → m ≤ marks_in front → r ≤ tidy_lines_in front
+
+-- at a mark no earlier tidy line is missing
+abbrev pub LineFits : List (Line LogEvent) → Line LogEvent → Type 0
+LineFits front (item (Step step)) = ⊤
+LineFits front (item (Conflict k)) = NoneIsMissing front
+LineFits front (tidy r) = TidyFits front r
+
+-- each line fits those before it
+abbrev pub TidiedInTime : List (Line LogEvent) → Type 0
+TidiedInTime lines = (front later : List (Line LogEvent)) (l : Line LogEvent) → lines ≡ front ++ l ∷ later → LineFits front l
