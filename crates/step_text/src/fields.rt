@@ -36,6 +36,7 @@ fn take_any_id(tokens: &mut TokensAhead, size: usize) -> Result<u64, TextRefusal
 }
 
 /// An id.
+#[inline(always)]
 pub fn take_id(tokens: &mut TokensAhead, size: usize) -> Result<u64, TextRefusal>
     ensures { TakesOne id an_id size (placed_words tokens.old) result (placed_words tokens.new) }
 {
