@@ -22,6 +22,8 @@ fn literal_of(integer: i64) -> Lit
 }
 
 /// The literals of integers, in the memory of `room`; none where a variable is above the formula's number.
+// Each step that adds something calls it once.
+#[inline(always)]
 fn known_literals(
     room: Vec<Lit>,
     vars: u32,

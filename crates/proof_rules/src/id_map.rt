@@ -92,6 +92,8 @@ impl<V: Drop + Filler> IdMap<V> {
     }
 
     /// Puts a value under this id. Without memory nothing changes.
+    // Its calls are few, and on the path of each step and of each id that is moved.
+    #[inline(always)]
     pub fn insert(&mut self, id: u64, value: V) -> Result<(), AllocError>
         ensures ok { OnOk result (self.new ≡ map.insert self.old id value) }
         ensures err { OnErr result (self.new ≡ self.old) }

@@ -116,6 +116,8 @@ impl<'f> LiveTable<'f> {
     }
 
     /// Puts a list under this id: that of the formula where it is the same, and otherwise a copy. Without memory nothing changes.
+    // Each step that adds something calls it once.
+    #[inline(always)]
     pub(crate) fn insert_copy(&mut self, id: u64, lits: &[Lit]) -> Result<(), AllocError>
         ensures ok { OnOk result (self.new ≡ map.insert self.old id lits.now) }
         ensures err { OnErr result (self.new ≡ self.old) }
