@@ -1,7 +1,7 @@
 use Rattle.std.proofs.Common.{◌≤◌, length, refl, subst, inl, inr, arith}
 use Rattle.gf2_matrix.proofs.Steps.{nearer, column_step_fits}
 use Rattle.gauss_incremental.proofs.Latest.{last_further}
-use Rattle.gauss_incremental.proofs.watching.last_assigned.Goals as goal
+use Rattle.gauss_incremental.proofs.watching.Levels.last_assigned.Goals as goal
 
 pub loop-column-init : goal.loop-column-init
 loop-column-init c = λ k lt other. absurd (omega arith)
@@ -20,10 +20,10 @@ later_of-best-requires-clause-next_in c = c.in-Some.ensures.1
 
 pub later_of-best-requires-clause-before : goal.later_of-best-requires-clause-before
 later_of-best-requires-clause-before c =
-    last_further c.args.matrix.now c.args.held.now c.args.row c.args.basic c.loop-column.next c.in-Some.column c.loop-column.best c.loop-column.invariant c.in-Some.ensures.3
+    last_further c.args.self.now.matrix.now c.args.self.now.held.now c.args.row c.args.basic c.loop-column.next c.in-Some.column c.loop-column.best c.loop-column.invariant c.in-Some.ensures.3
 
 pub overflow_add-next : goal.overflow_add-next
-overflow_add-next c = column_step_fits c.in-Some.ensures.1 (subst (λ n. n ≤ c.args.matrix.now.vars) c.columns-columns.ensures.count c.columns-columns.ensures.few) c.columns-columns.ensures.small
+overflow_add-next c = column_step_fits c.in-Some.ensures.1 (subst (λ n. n ≤ c.args.self.now.matrix.now.vars) c.columns-columns.ensures.count c.columns-columns.ensures.few) c.columns-columns.ensures.small
 
 pub loop-column-preserved : goal.loop-column-preserved
 loop-column-preserved c = c.later_of-best.ensures
@@ -33,4 +33,4 @@ loop-column-smaller c = nearer c.in-Some.ensures.0 c.in-Some.ensures.1
 
 pub returns : goal.returns
 returns c =
-    inr (last_further c.args.matrix.now c.args.held.now c.args.row c.args.basic c.loop-column.next (length c.args.matrix.now.columns) c.loop-column.best c.loop-column.invariant c.in_default.ensures)
+    inr (last_further c.args.self.now.matrix.now c.args.self.now.held.now c.args.row c.args.basic c.loop-column.next (length c.args.self.now.matrix.now.columns) c.loop-column.best c.loop-column.invariant c.in_default.ensures)
