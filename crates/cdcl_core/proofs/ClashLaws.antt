@@ -8,6 +8,8 @@ use Rattle.cx_semantics.specs.Marked.{Marked, original_events}
 use Rattle.cx_semantics.proofs.FailingLaws.{clashes_fail}
 use Rattle.search_steps.specs.Search.{Search}
 use Rattle.search_steps.specs.Start.{IsBegun}
+use Rattle.search_steps.specs.Schedule.{IsScheduled}
+use Rattle.search_steps.proofs.ScheduleLaws.{originals_are_scheduled}
 use Rattle.search_steps.proofs.Ends.{ended_is_unmet}
 use Rattle.cdcl_core.specs.Originals.{HasBegun}
 use Rattle.cdcl_core.specs.Results.{Refutes}
@@ -31,5 +33,6 @@ clash_refutes formula x budget some clash c (Some es) b = record {
   log = (
     record { ended = inl c; last = λ apart. absurd (true≢false (sym c ∙ apart)) },
     (0, omega (arith, some), subst (λ xs. Marked formula xs 0) (sym b.4) (begun_is_marked formula b.0 b.1)),
+    subst IsScheduled (sym b.4) (originals_are_scheduled formula.constraints b.0.events b.1.originals),
   );
 }

@@ -14,7 +14,7 @@ use Rattle.cx_base.specs.Assumptions.{clashes, is_ending, IsFailed}
 use Rattle.cx_base.specs.Integers.{integers_of, literals}
 use Rattle.search_steps.specs.LogSteps.{IsAddition}
 use Rattle.search_steps.specs.Search.{IsSearch}
-use Rattle.search_steps.proofs.Ends.{ended_is_unmet, chained_clause_ends, chained_clause_fails, chained_clause_is_marked}
+use Rattle.search_steps.proofs.Ends.{ended_is_unmet, chained_clause_ends, chained_clause_fails, chained_clause_is_marked, chained_clause_is_scheduled}
 use Rattle.search_steps.specs.Search.{Search}
 use Rattle.search_steps.specs.Holding.{AreTold}
 use Rattle.cdcl_search.specs.Tells.{IsLeft, with_events}
@@ -29,7 +29,7 @@ no_newer (x ∷ newer) older es is long = absurd (let a = ap length is in let b 
 -- ---- steps that end the log
 within : (formula : Problem) (marks : ℕ) (failed : List Literal) (told : Option (List LogEvent)) → IsEndedWith formula marks failed told → IsEndedWithin formula (marks + 1) failed told
 within formula marks failed None e = tt
-within formula marks failed (Some events) e = (e.0, (marks, omega arith, e.1))
+within formula marks failed (Some events) e = (e.0, (marks, omega arith, e.1), e.2)
 
 pub ends_refute : (formula : Problem) (marks : ℕ) (failed : List Literal) (told : Option (List LogEvent)) → Unmet formula → IsFailed formula failed → clashes formula.constraints ≡ false → IsEndedWith formula marks failed told → Refutes formula (marks + 1) told failed
 ends_refute formula marks failed told unmet fails apart ends = record { unmet = unmet; fails = fails; clash = λ both. absurd (true≢false (sym both ∙ apart)); log = within formula marks failed told ends }
@@ -65,7 +65,7 @@ module _ (formula : Problem) (parities : List (List Literal)) (s : Search) (ok :
 
   pub clause_is_told : (o : Option (List LogEvent)) → AreTold o s.events → IsEndedWith formula marks (negations lits) (with_events (Step last ∷ []) o)
   clause_is_told None a = tt
-  clause_is_told (Some es) a = subst (λ xs. IsEndedWith formula marks (negations lits) (Some (xs ++ Step last ∷ []))) (sym a) (clause_ends, clause_is_marked)
+  clause_is_told (Some es) a = subst (λ xs. IsEndedWith formula marks (negations lits) (Some (xs ++ Step last ∷ []))) (sym a) (clause_ends, clause_is_marked, chained_clause_is_scheduled formula parities s ok n (integers_of lits) hints)
 
   pub clause_is_unmet : Unmet formula
   clause_is_unmet = ended_is_unmet formula (s.events ++ Step last ∷ []) clause_ends.ended

@@ -2,6 +2,7 @@
 use Rattle.std.proofs.Common.{◌≡◌, ◌≢◌, refl, sym, ap, ◌∙◌, subst, ℕ, zero, suc, ◌+◌, ◌-◌, ◌*◌, ◌<◌, ◌≤◌, Bool, true, false, true≢false, not, cond, nat_eq, eqb-true, List, [], ◌∷◌, length, get_or, Option, Some, None, Contains, inl, inr, arith}
 use Rattle.std.specs.Prelude.{IsSome, IsTrue, slice_set, if◌then◌else◌}
 use Rattle.std.proofs.lemmas.List.{get_or-set_other}
+use Rattle.std.proofs.lemmas.List.FromFn.{length-range_with_len}
 use Rattle.std.proofs.lemmas.Bool.{and_parts}
 use Rattle.std.specs.FinMap as map_
 use Rattle.cx_base.specs.Literals.{Literal}
@@ -10,7 +11,7 @@ use Rattle.cx_base.specs.declared.steps.LogStep.TheVariants.{Delete}
 use Rattle.cx_base.specs.declared.steps.LogEvent.{LogEvent}
 use Rattle.cx_base.specs.declared.steps.LogEvent.TheVariants.{Step}
 use Rattle.cx_semantics.specs.Chain.{has_literal, is_inside}
-use Rattle.cx_semantics.specs.Marked.{without}
+use Rattle.cx_semantics.specs.Marked.{Moment, without}
 use Rattle.cx_semantics.specs.Tables.{get}
 use Rattle.cx_semantics.proofs.Closure.{has_by_inside}
 use Rattle.cx_trail.specs.Sequence.{entry_at}
@@ -23,6 +24,8 @@ use Rattle.parity_engine.specs.State.{State}
 use Rattle.search_steps.specs.Trail.{Entry, by_clause, held}
 use Rattle.search_steps.specs.LogSteps.{IsNoReason}
 use Rattle.search_steps.specs.Search.{Search, IsSearch, told}
+use Rattle.search_steps.specs.Schedule.{IsInReduction, IsRestart}
+use Rattle.search_steps.proofs.ScheduleLaws.{moment_is, reduction_may_begin, reduction_goes_on}
 use Rattle.search_steps.proofs.LogLaws.{delete_learned_keeps}
 use Rattle.search_steps.proofs.IdLaws.{deletion_ranged}
 use Rattle.search_steps.proofs.Stored.{has_of, of_has}
@@ -99,7 +102,8 @@ module _ (a : ArenaState) (r : ℕ) where
   still_live q h live = subst IsSome (sym (other_stays q h)) live
 
 module _ (formula : Problem) (c : SearchState) (e : State) (s : Search) (ok : IsSearch formula e.parities s) (p : Ties formula c e [] s) (r : ℕ) (live : IsLive c.arena r) (was_learned : IsTrue (learned_at c.arena r))
-    (all_units : length c.units.items ≡ length c.trail.entries) (fresh : s.moment.reductions < c.reductions) (enough : 751 + 250 * c.reductions ≤ c.learned) where
+    (all_units : length c.units.items ≡ length c.trail.entries) (fresh : s.moment.reductions < c.reductions) (enough : 751 + 250 * c.reductions ≤ c.learned)
+    (reducing : IsInReduction s.events) where
   abbrev n : ℕ
   n = id_at c.arena r
 
@@ -134,7 +138,7 @@ module _ (formula : Problem) (c : SearchState) (e : State) (s : Search) (ok : Is
 
   pub is_search_then : IsSearch formula e.parities after
   is_search_then = delete_learned_keeps formula e.parities s ok n [] (here.late was_learned) is_no_reason
-      (let many = p.counts.many in let one = left in omega (arith, fresh, enough, many, one))
+      (let many = p.counts.many in let one = left in omega (arith, fresh, enough, many, one)) reducing
 
   kept_then : (q : ℕ) → IsLive b q → IsKept formula after.moment.tables.clauses c.next b q
   kept_then q h =
@@ -217,18 +221,20 @@ module _ (formula : Problem) (c : SearchState) (e : State) (s : Search) (ok : Is
 pub one_deletion_keeps : (formula : Problem) (c : SearchState) (e : State) (told_ : Option (List LogEvent)) (st : SearchLoses formula c e told_) (r : ℕ) → IsLive c.arena r → IsTrue (learned_at c.arena r)
     → length c.units.items ≡ length c.trail.entries → 751 + 250 * c.reductions ≤ c.learned
     → SearchLoses formula (record c { arena = less c.arena r; learned = c.learned - 1 }) e (with_events (Step (Delete (id_at c.arena r) []) ∷ []) told_)
-one_deletion_keeps formula c e told_ (s, ok, are, p, f, fresh) r live was_learned all_units enough = (
+one_deletion_keeps formula c e told_ (s, ok, are, p, f, fresh, reducing) r live was_learned all_units enough = (
   told s (Step (Delete (id_at c.arena r) [])),
-  is_search_then formula c e s ok p r live was_learned all_units fresh enough,
+  is_search_then formula c e s ok p r live was_learned all_units fresh enough reducing,
   all_told_are (Step (Delete (id_at c.arena r) []) ∷ []) s told_ are,
-  ties_less formula c e s ok p r live was_learned all_units fresh enough,
-  watched_less formula c e s ok p r live was_learned all_units fresh enough f,
+  ties_less formula c e s ok p r live was_learned all_units fresh enough reducing,
+  watched_less formula c e s ok p r live was_learned all_units fresh enough reducing f,
   fresh,
+  reduction_goes_on s.events (id_at c.arena r) reducing,
 )
 
 -- ---- the ends of a reduction
-pub reduction_begins : (formula : Problem) (c : SearchState) (e : State) (told_ : Option (List LogEvent)) → SearchStands formula c e [] told_ → SearchLoses formula (record c { reductions = c.reductions + 1 }) e told_
-reduction_begins formula c e told_ (s, ok, are, p, fits) = (
+pub reduction_begins : (formula : Problem) (c : SearchState) (e : State) (told_ : Option (List LogEvent)) → SearchStands formula c e [] told_ → 2000 + 500 * c.reductions ≤ c.learned → IsRestart c.conflicts
+    → SearchLoses formula (record c { reductions = c.reductions + 1 }) e told_
+reduction_begins formula c e told_ (s, ok, are, p, fits) enough restart = (
   s,
   ok,
   are,
@@ -245,6 +251,11 @@ reduction_begins formula c e told_ (s, ok, are, p, fits) = (
   },
   record { before = c.arena; part = λ q h. refl; watched = fits },
   (let f = p.counts.few in let l = at_least s.moment.reduces s.moment.reductions in omega (arith, f, l)),
+  reduction_may_begin s.events (record {
+    restart = subst IsRestart (sym (ap length ok.log.marks ∙ length-range_with_len 1 s.conflicts ∙ p.counts.marked)) restart;
+    many = subst (λ (m : Moment). 2000 + 500 * m.reductions ≤ length m.learned) (moment_is formula s.moment s.events ok.log.fits)
+        (let f = p.counts.few in let l = at_least s.moment.reduces s.moment.reductions in let many = p.counts.many in omega (arith, f, l, many, enough));
+  }),
 )
   where
     at_least : (b : Bool) (k : ℕ) → k ≤ (if b then k + 1 else k)
@@ -252,7 +263,7 @@ reduction_begins formula c e told_ (s, ok, are, p, fits) = (
     at_least false k = omega arith
 
 pub reduction_ends : (formula : Problem) (c : SearchState) (e : State) (told_ : Option (List LogEvent)) (w : WatchState) → SearchLoses formula c e told_ → IsDetached c.arena c.watches w → SearchStands formula (record c { watches = w }) e [] told_
-reduction_ends formula c e told_ w (s, ok, are, p, f, fresh) cut = (
+reduction_ends formula c e told_ w (s, ok, are, p, f, fresh, reducing) cut = (
   s,
   ok,
   are,
@@ -272,7 +283,7 @@ reduction_ends formula c e told_ w (s, ok, are, p, f, fresh) cut = (
 
 -- ---- what is told within a reduction
 pub loses_is_left : (formula : Problem) (c : SearchState) (e : State) (told_ : Option (List LogEvent)) → SearchLoses formula c e told_ → IsLeft formula told_
-loses_is_left formula c e told_ (s, ok, are, p, f, fresh) = is_left formula e.parities s told_ ok p.log.served.served are
+loses_is_left formula c e told_ (s, ok, are, p, f, fresh, reducing) = is_left formula e.parities s told_ ok p.log.served.served are
 
 pub loses_told : {L : Type 0} (m : sink.Ghosts L LogEvent) (old new : SearchLog L) (why : Option CoreFault) → GoesOn m old why new
     → (c d : SearchState) (e : State) (event is : LogEvent) → event ≡ is → m.items new.sink.now ≡ with_events (event ∷ []) (m.items old.sink.now) → d ≡ c → SearchLoses old.formula.now c e (with_events (is ∷ []) (m.items old.sink.now))

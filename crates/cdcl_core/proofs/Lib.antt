@@ -34,3 +34,4 @@ pub mod RecoveredWithin
 pub mod NarrowSettled
 pub mod NarrowAnswers
 pub mod RaisedScores
+pub mod OnSchedule

@@ -15,6 +15,7 @@ use Rattle.conflict_learn.specs.Faults.{fault_in}
 use Rattle.parity_engine.specs.State.{State}
 use Rattle.parity_engine.specs.declared.state.Mood.TheVariants.{Broken}
 use Rattle.search_steps.specs.Holding.{AreTold}
+use Rattle.search_steps.specs.Schedule.{IsScheduled}
 use Rattle.search_steps.specs.Search.{Search, IsSearch}
 use Rattle.cx_trail.specs.Sequence.{IsFalseIn}
 use Rattle.step_text.specs.declared.sink.Sink as sink
@@ -47,10 +48,10 @@ pub record IsAtConflict {P L : Type 0} (p : engine.Ghosts P) (m : sink.Ghosts L 
   pub conflict : IsConflictClause c rows clause
   pub above : 0 < c.trail.level
 
--- the log is ended with these failed assumptions, and marked this often
+-- the log is ended with these failed assumptions, and marked this often, and learned clauses are deleted on schedule
 abbrev pub IsEndedWith : Problem → ℕ → List Literal → Option (List LogEvent) → Type 0
 IsEndedWith formula marks failed None = Unit {0}
-IsEndedWith formula marks failed (Some events) = EndsFor formula events failed × Marked formula events marks
+IsEndedWith formula marks failed (Some events) = EndsFor formula events failed × Marked formula events marks × IsScheduled events
 
 -- telling these steps ends the log, with these failed assumptions; so no values meet the formula
 pub record EndsLog (formula : Problem) (marks : ℕ) (told : Option (List LogEvent)) (failed : List Literal) (steps : List LogStep) : Type 0 where

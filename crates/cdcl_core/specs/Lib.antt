@@ -15,3 +15,4 @@ pub mod Compacting
 pub mod Rounds
 pub mod GoingBack
 pub mod Shortening
+pub mod Scheduling

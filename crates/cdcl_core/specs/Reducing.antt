@@ -11,6 +11,7 @@ use Rattle.watch_lists.specs.Detaching.{IsPartOf}
 use Rattle.step_text.specs.declared.sink.Sink as sink
 use Rattle.parity_engine.specs.State.{State}
 use Rattle.parity_engine.specs.declared.engine.ParityEngine as engine
+use Rattle.search_steps.specs.Schedule.{IsInReduction}
 use Rattle.search_steps.specs.Search.{Search, IsSearch}
 use Rattle.search_steps.specs.Holding.{AreTold}
 use Rattle.cdcl_search.specs.declared.state.SearchState.{SearchState}
@@ -24,9 +25,9 @@ pub record WasWatched (w : WatchState) (a : ArenaState) (t : TrailState) : Type 
   pub part : IsPartOf a before
   pub watched : IsWatched w before t
 
--- a search at level 0 fits the code but for the watches: removed clauses are still attached, and this reduction is counted already
+-- a search at level 0 fits the code but for the watches: removed clauses are still attached, and this reduction is counted already and due
 abbrev pub SearchLoses : Problem → SearchState → State → Option (List LogEvent) → Type 0
-SearchLoses formula c e told = (s : Search) × IsSearch formula e.parities s × AreTold told s.events × Ties formula c e [] s × WasWatched c.watches c.arena c.trail × (s.moment.reductions < c.reductions)
+SearchLoses formula c e told = (s : Search) × IsSearch formula e.parities s × AreTold told s.events × Ties formula c e [] s × WasWatched c.watches c.arena c.trail × (s.moment.reductions < c.reductions) × IsInReduction s.events
 
 -- so it fits what the log was told; each literal of the trail has a unit clause, and the sink has not failed
 pub record IsReducing {P L : Type 0} (p : engine.Ghosts P) (m : sink.Ghosts L LogEvent) (log : SearchLog L) (c : SearchState) (e : P) : Type 0 where

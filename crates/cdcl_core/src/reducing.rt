@@ -1,5 +1,6 @@
 //! Deleting learned clauses.
-ghost use Rattle.std.specs.Prelude.{◌≡◌, [], length, IsTrue};
+ghost use Rattle.std.specs.Prelude.{◌≡◌, ◌+◌, ◌*◌, ◌≤◌, [], length, IsTrue};
+ghost use Rattle.search_steps.specs.Schedule.{IsRestart};
 ghost use Rattle.cdcl_search.specs.Calls.{SearchesOn};
 ghost use Rattle.cdcl_search.specs.Logs.{HasNotFailed, Stands};
 ghost use Rattle.cdcl_core.specs.Reducing.{MayGo, IsReducing, ReducesOn};
@@ -44,7 +45,7 @@ fn remove_where_may<P: ParityEngine, L: Sink<Item = LogEvent>>(
     Ok(())
 }
 
-/// Deletes those of these clauses that may go, at level 0 where each literal has a unit clause.
+/// Deletes those of these clauses that may go, at a restart where many are learned: at level 0, with a unit clause for each literal.
 pub(crate) fn reduce<P: ParityEngine, L: Sink<Item = LogEvent>>(
     log: &mut SearchLog<L>,
     state: &mut SearchState,
@@ -53,6 +54,8 @@ pub(crate) fn reduce<P: ParityEngine, L: Sink<Item = LogEvent>>(
 ) -> Result<(), CoreFault>
     requires stands { Stands P.ParityEngine L.Sink log.old state.old engine.now [] }
     requires units { length state.old.units.items ≡ length state.old.trail.entries }
+    requires many { 2000 + 500 * state.old.reductions ≤ state.old.learned }
+    requires restart { IsRestart state.old.conflicts }
     requires going { HasNotFailed L.Sink log.old }
     ensures searches_on { SearchesOn P.ParityEngine L.Sink log.old state.old log.new state.new engine.now result }
     ensures trail { state.new.trail ≡ state.old.trail }

@@ -1,9 +1,12 @@
 //! When the search restarts, and which learned clauses it deletes then.
-ghost use Rattle.std.specs.Prelude.{◌≡◌, ◌≢◌, [], length, IsTrue, OnOk};
+ghost use Rattle.std.specs.Prelude.{◌≡◌, ◌≢◌, ◌<◌, ◌≤◌, ◌+◌, ◌*◌, ◌^◌, ◌↔◌, [], length, IsTrue, OnOk};
 ghost use Rattle.parity_engine.specs.declared.state.Mood.TheVariants.{Broken};
 ghost use Rattle.search_policy.specs.Assuming.{KeepsAssumptions};
+ghost use Rattle.search_policy.specs.Restarts.{IsDue};
+ghost use Rattle.search_steps.specs.Schedule.{IsRestart};
 ghost use Rattle.cdcl_search.specs.Calls.{IsReady, SearchesOn};
 ghost use Rattle.cdcl_search.specs.Logs.{HasNotFailed, Stands};
+ghost use Rattle.cdcl_core.specs.Scheduling.{IsOnSchedule, IsOneAhead};
 
 use crate::compacting::compact;
 use crate::reducing::reduce;
@@ -18,10 +21,7 @@ use search_policy::{Assumptions, Card, choose_removed_in_place, restart_due};
 use std::alloc::{AllocError, Global};
 use step_text::Sink;
 
-/// More restarts than any search makes.
-const LAST_RESTART: u64 = 1 << 62;
-
-/// What decides when the search restarts and what it deletes: no answer rests on it.
+/// What decides when the search restarts. No answer rests on it, but the log follows it.
 #[derive(Drop)]
 pub(crate) struct Schedule {
     /// Counted conflicts since the last restart.
@@ -57,7 +57,9 @@ fn cards_of(alloc: Global, arena: &Arena, learned: u64) -> Result<Vec<Card>, All
 
 impl Schedule {
     /// No restart yet.
-    pub fn new() -> Schedule {
+    pub fn new() -> Schedule
+        ensures { result ≡ record { since = 0; restarts = 0 } }
+    {
         Schedule {
             since: 0,
             restarts: 0,
@@ -65,19 +67,28 @@ impl Schedule {
     }
 
     /// Counts a conflict.
-    fn count(&mut self) {
-        self.since = self.since.saturating_add(1);
+    fn count(&mut self)
+        requires { self.old.since < 2 ^ 63 }
+        ensures { self.new ≡ record self.old { since = self.old.since + 1 } }
+    {
+        self.since += 1;
     }
 
     /// Whether a restart is due.
-    fn is_due(&self) -> bool {
-        self.restarts < LAST_RESTART && restart_due(self.since, self.restarts + 1)
+    fn is_due(&self) -> bool
+        requires { self.now.restarts < 2 ^ 62 }
+        ensures { IsTrue result ↔ IsDue self.now.since (self.now.restarts + 1) }
+    {
+        restart_due(self.since, self.restarts + 1)
     }
 
     /// Counts a restart.
-    fn begin_again(&mut self) {
+    fn begin_again(&mut self)
+        requires { self.old.restarts < 2 ^ 62 }
+        ensures { self.new ≡ record { since = 0; restarts = self.old.restarts + 1 } }
+    {
         self.since = 0;
-        self.restarts = self.restarts.saturating_add(1);
+        self.restarts += 1;
     }
 }
 
@@ -88,8 +99,10 @@ fn choose(alloc: Global, state: &SearchState) -> Result<RefList, AllocError> {
 }
 
 /// Whether there are so many learned clauses that some go: 2000, and 500 more for each reduction before.
-fn are_many(state: &SearchState) -> bool {
-    state.learned / 500 >= state.reductions.saturating_add(4)
+fn are_many(state: &SearchState) -> bool
+    ensures { IsTrue result → 2000 + 500 * state.now.reductions ≤ state.now.learned }
+{
+    state.learned >= 2000 && state.reductions <= (state.learned - 2000) / 500
 }
 
 /// Whether each literal of the trail has a unit clause, as at level 0.
@@ -99,13 +112,14 @@ fn has_units(state: &SearchState) -> bool
     state.units.len() == state.trail.len()
 }
 
-/// Deletes learned clauses where there are many, and closes the gaps that they leave.
+/// Deletes learned clauses at a restart where there are many, and closes the gaps that they leave.
 fn reduce_where_many<P: ParityEngine, L: Sink<Item = LogEvent>>(
     log: &mut SearchLog<L>,
     state: &mut SearchState,
     engine: &P,
 ) -> Result<(), CoreFault>
     requires stands { Stands P.ParityEngine L.Sink log.old state.old engine.now [] }
+    requires restart { IsRestart state.old.conflicts }
     requires going { HasNotFailed L.Sink log.old }
     ensures searches_on { SearchesOn P.ParityEngine L.Sink log.old state.old log.new state.new engine.now result }
     ensures level { state.new.trail.level ≡ state.old.trail.level }
@@ -130,9 +144,12 @@ pub(crate) fn follow_schedule<P: ParityEngine, L: Sink<Item = LogEvent>>(
 ) -> Result<(), CoreFault>
     requires ready { IsReady P.ParityEngine L.Sink log.old state.old engine.old }
     requires keeps { KeepsAssumptions log.old.formula.now.constraints assumptions.old state.old.trail }
+    requires on { IsOneAhead schedule.old state.old.conflicts }
+    requires few { state.old.conflicts ≤ 10 ^ 18 }
     ensures searches_on { SearchesOn P.ParityEngine L.Sink log.old state.old log.new state.new engine.new result }
     ensures unbroken { (P.state engine.new).mood ≢ Broken }
     ensures keeps { OnOk result (KeepsAssumptions log.new.formula.now.constraints assumptions.new state.new.trail) }
+    ensures on { OnOk result (IsOnSchedule schedule.new state.new.conflicts) }
 {
     schedule.count();
     if !schedule.is_due() {

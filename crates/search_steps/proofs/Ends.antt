@@ -24,6 +24,8 @@ use Rattle.cx_semantics.proofs.FailingLaws.{ended_steps_fail}
 use Rattle.cx_semantics.proofs.Soundness.{right_steps_are_unmet}
 use Rattle.search_steps.specs.Search.{Search, IsSearch}
 use Rattle.search_steps.specs.LogSteps.{IsAddition, IsEnded, IsClauseOfRow}
+use Rattle.search_steps.specs.Schedule.{IsScheduled}
+use Rattle.search_steps.proofs.ScheduleLaws.{MayFollow, scheduled_then}
 use Rattle.search_steps.proofs.LogLaws.{begins_still}
 
 -- a log that is right to its end shows that no values meet the formula
@@ -67,6 +69,16 @@ module _ (formula : Problem) (parities : List (List Literal)) (s : Search) (ok :
     fit = events_go_on formula first_moment s.moment s.events (Step step) ok.log.fits fits;
     served = served;
   }
+
+  -- and no learned clause is deleted by it
+  last_step_is_scheduled : (step : LogStep) → MayFollow s.events (Step step) → IsScheduled (s.events ++ Step step ∷ [])
+  last_step_is_scheduled step may = scheduled_then s.events (Step step) ok.log.scheduled may
+
+  pub chained_clause_is_scheduled : (n : ℕ) (zs hints : List ℤ) → IsScheduled (s.events ++ Step (ClauseWithHints n zs hints) ∷ [])
+  chained_clause_is_scheduled n zs hints = last_step_is_scheduled (ClauseWithHints n zs hints) (λ k ys is among. cc)
+
+  pub row_clause_is_scheduled : (n : ℕ) (zs : List ℤ) (source : ℕ) → IsScheduled (s.events ++ Step (ClauseOfParity n zs source) ∷ [])
+  row_clause_is_scheduled n zs source = last_step_is_scheduled (ClauseOfParity n zs source) (λ k ys is among. cc)
 
   -- a clause by a right chain, while no clause is owed
   pub chained_clause_ends : (n : ℕ) (zs hints : List ℤ) → IsAddition formula s.moment.tables.clauses n zs → HasChain s.moment.tables.clauses (literals zs) → derives_ending_clause formula (ClauseWithHints n zs hints) ≡ true

@@ -24,4 +24,5 @@ pub mod OverSearch
 pub mod RoundEnds
 pub mod Propagation
 pub mod Reasons
+pub mod ScheduleLaws
 pub mod TidyLineLaws

@@ -32,6 +32,8 @@ use Rattle.search_steps.specs.Quiet.{IsOfParities}
 use Rattle.search_steps.specs.Search.{Search, IsLog, Serves, IsSearch, told, marked, IsServed, IsLearnedOf}
 use Rattle.search_steps.specs.LogSteps.{IsNoReason, IsAddition, RestOnClauses, IsRowOf, IsClauseOfRow}
 use Rattle.conflict_learn.proofs.ChainOfResolutions.{by_cases}
+use Rattle.search_steps.specs.Schedule.{IsInReduction, moment_after}
+use Rattle.search_steps.proofs.ScheduleLaws.{MayFollow, moment_is, scheduled_then, mark_may_follow}
 use Rattle.search_steps.proofs.Sets.{not_both, true_rests}
 use Rattle.search_steps.proofs.FreshLaws.{takes_forced}
 use Rattle.search_steps.proofs.QuietLaws.{implied_rests}
@@ -69,15 +71,16 @@ next_range n =
     ap (range_with_len 1) e ∙ range_push 1 n ∙ ap (λ x. range_with_len 1 n ++ x ∷ []) f
 
 module _ (formula : Problem) (events : List LogEvent) (moment : Moment) (conflicts : ℕ) (log : IsLog formula events moment conflicts) where
-  pub step_goes_on : (step : LogStep) → IsRight (log_calculus formula) moment.tables step → derives_ending_clause formula step ≡ false → StepFits formula moment step
+  pub step_goes_on : (step : LogStep) → IsRight (log_calculus formula) moment.tables step → derives_ending_clause formula step ≡ false → StepFits formula moment step → MayFollow events (Step step)
       → IsLog formula (events ++ Step step ∷ []) (after_event moment (Step step)) conflicts
-  step_goes_on step is_right goes fits = record {
+  step_goes_on step is_right goes fits may = record {
     apart = log.apart;
     runs = subst (λ steps. Runs (log_calculus formula) (log_calculus formula).start steps (after_log_step moment.tables step)) (sym (filter_map-append step_of events (Step step ∷ [])))
         (runs_push (log_calculus formula) (log_calculus formula).start (filter_map step_of events) step moment.tables log.runs is_right goes);
     fits = events_go_on formula first_moment moment events (Step step) log.fits fits;
     marks = filter_map-append mark_of events (Step step ∷ []) ∙ append-nil (filter_map mark_of events) ∙ log.marks;
     originals = begins_still formula.constraints events (Step step ∷ []) log.originals;
+    scheduled = scheduled_then events (Step step) log.scheduled may;
   }
 
   pub mark_goes_on : MarkFits formula moment → IsLog formula (events ++ Conflict (conflicts + 1) ∷ []) (after_event moment (Conflict (conflicts + 1))) (conflicts + 1)
@@ -87,6 +90,7 @@ module _ (formula : Problem) (events : List LogEvent) (moment : Moment) (conflic
     fits = events_go_on formula first_moment moment events (Conflict (conflicts + 1)) log.fits fits;
     marks = filter_map-append mark_of events (Conflict (conflicts + 1) ∷ []) ∙ ap (λ xs. xs ++ (conflicts + 1) ∷ []) log.marks ∙ sym (next_range conflicts);
     originals = begins_still formula.constraints events (Conflict (conflicts + 1) ∷ []) log.originals;
+    scheduled = scheduled_then events (Conflict (conflicts + 1)) log.scheduled (mark_may_follow events (conflicts + 1));
   }
 
 -- ---- literals of level 0 are known
@@ -134,9 +138,9 @@ reached_is_known table l h f =
 
 -- ---- steps of the search
 module _ (formula : Problem) (parities : List (List Literal)) (s : Search) (ok : IsSearch formula parities s) where
-  tell : (step : LogStep) → IsRight (log_calculus formula) s.moment.tables step → derives_ending_clause formula step ≡ false → StepFits formula s.moment step
+  tell : (step : LogStep) → IsRight (log_calculus formula) s.moment.tables step → derives_ending_clause formula step ≡ false → StepFits formula s.moment step → MayFollow s.events (Step step)
       → Serves formula parities (after_log_step s.moment.tables step) s.trail s.quiet_levels → IsSearch formula parities (told s (Step step))
-  tell step is_right goes fits serves = record { log = step_goes_on formula s.events s.moment s.conflicts ok.log step is_right goes fits; serves = serves }
+  tell step is_right goes fits may serves = record { log = step_goes_on formula s.events s.moment s.conflicts ok.log step is_right goes fits may; serves = serves }
 
   not_live : (table : Table) (n : ℕ) → get table n ≡ None → is_live table n ≡ false
   not_live table n e = ap is_some e
@@ -153,6 +157,7 @@ module _ (formula : Problem) (parities : List (List Literal)) (s : Search) (ok :
       goes
       (subst (λ b. MatchBool b (IsLearned s.moment (l ∷ [])) (derives_ending_clause formula (ClauseWithHints n (z ∷ []) hints) ≡ false → IsKnown s.moment (l ∷ []))) (sym served)
       (λ _. inl (refl, reached_is_known s.moment.tables.clauses l reached)))
+      (λ k ys is among. cc)
       (put_serves formula parities s.trail s.quiet_levels s.moment.tables n (l ∷ []) a.free
       (λ k h. true_rests (held k s.trail) (l ∷ [])
       (part_no_clash (held k s.trail) (all_held s.trail) (held_inside k s.trail) (trail_no_clash s.moment.tables.clauses IsRow s.trail ok.serves.stands))
@@ -173,7 +178,7 @@ module _ (formula : Problem) (parities : List (List Literal)) (s : Search) (ok :
   pub live_sum_keeps : (n : ℕ) (zs : List ℤ) (ids : List ℕ) → IsAddition formula s.moment.tables.parities n zs → AreLive s.moment.tables.parities ids → IsSum (literals zs) (named s.moment.tables.parities ids) → IsSearch formula parities (told s (Step (Parity n zs ids)))
   live_sum_keeps n zs ids a live sums = tell (Parity n zs ids)
       (a.within, (not_live s.moment.tables.parities n a.free, (all_are_live ids live, (sums, tt))))
-      refl tt
+      refl tt (λ k ys is among. cc)
       (put_parity_serves formula parities s.trail s.quiet_levels s.moment.tables n (literals zs) a.free ok.serves)
     where
       all_are_live : (ids : List ℕ) → AreLive s.moment.tables.parities ids → list_any (λ k. not (is_live s.moment.tables.parities k)) ids ≡ false
@@ -186,7 +191,7 @@ module _ (formula : Problem) (parities : List (List Literal)) (s : Search) (ok :
 
   -- a parity that live clauses imply
   pub clauses_parity_keeps : (n : ℕ) (zs : List ℤ) (ids : List ℕ) → get s.moment.tables.parities n ≡ None → IsRight (log_calculus formula) s.moment.tables (ParityOfClauses n zs ids) → IsSearch formula parities (told s (Step (ParityOfClauses n zs ids)))
-  clauses_parity_keeps n zs ids free is_right = tell (ParityOfClauses n zs ids) is_right refl tt (put_parity_serves formula parities s.trail s.quiet_levels s.moment.tables n (literals zs) free ok.serves)
+  clauses_parity_keeps n zs ids free is_right = tell (ParityOfClauses n zs ids) is_right refl tt (λ k ys is among. cc) (put_parity_serves formula parities s.trail s.quiet_levels s.moment.tables n (literals zs) free ok.serves)
 
   -- the clause of a row, where the sum of the row is live
   pub row_clause_keeps : (n : ℕ) (zs : List ℤ) (source : ℕ) (row : List Literal) → IsAddition formula s.moment.tables.clauses n zs → get s.moment.tables.parities source ≡ Some row
@@ -195,6 +200,7 @@ module _ (formula : Problem) (parities : List (List Literal)) (s : Search) (ok :
       (a.within, (not_live s.moment.tables.clauses n a.free, (ap (λ b. not b || false) (ap is_some live), (implied, tt))))
       goes
       (row, live, c.one_of_each)
+      (λ k ys is among. cc)
       (put_serves formula parities s.trail s.quiet_levels s.moment.tables n (literals zs) a.free
       (λ k h. implied_rests formula.variables parities (held k s.trail) (literals zs) (ok.serves.quiet k h).rows of_parities) ok.serves)
     where
@@ -211,7 +217,8 @@ module _ (formula : Problem) (parities : List (List Literal)) (s : Search) (ok :
         (a.within, (not_live s.moment.tables.clauses n a.free, (has_chain, tt)))
         goes
         (subst (λ b. MatchBool b (IsLearned s.moment (literals zs)) (derives_ending_clause formula (ClauseWithHints n zs hints) ≡ false → IsKnown s.moment (literals zs))) (sym owed)
-        (long zs learned.asserting.has_it, learned_is_fresh formula parities s ok back (literals zs) l levels learned));
+        (long zs learned.asserting.has_it, learned_is_fresh formula parities s ok back (literals zs) l levels learned))
+        (λ k ys is among. cc);
     serves = put_serves formula parities s.trail back s.moment.tables n (literals zs) a.free
         (Rattle.search_steps.proofs.ServesLaws.learned_rests formula parities s ok back (literals zs) l learned)
         (record {
@@ -230,15 +237,21 @@ module _ (formula : Problem) (parities : List (List Literal)) (s : Search) (ok :
   pub delete_keeps : (n : ℕ) (zs : List ℤ) → IsTemporary formula s n → IsNoReason n s.trail → IsSearch formula parities (told s (Step (Delete n zs)))
   delete_keeps n zs t no_reason = tell (Delete n zs) tt refl
       (λ h. not_both (is_among s.moment.learned n) (and_parts _ _ h).0 t.not_learned)
+      (λ k ys is among. absurd (not_both (is_among s.moment.learned n) (was_learned k ys is among) t.not_learned))
       (drop_serves formula parities s.trail s.quiet_levels s.moment.tables n t.high no_reason ok.serves)
+    where
+      was_learned : (k : ℕ) (ys : List ℤ) → Step (Delete n zs) ≡ Step (Delete k ys) → is_among (moment_after s.events).learned k ≡ true → is_among s.moment.learned n ≡ true
+      was_learned k ys is among =
+          let same : n ≡ k = cc in
+          subst (λ (m : Moment). is_among m.learned n ≡ true) (sym (moment_is formula s.moment s.events ok.log.fits)) (subst (λ i. is_among (moment_after s.events).learned i ≡ true) (sym same) among)
 
   pub delete_learned_keeps : (n : ℕ) (zs : List ℤ) → length (clauses_of formula.constraints) < n → IsNoReason n s.trail → 1000 + 250 * s.moment.reductions ≤ length (without s.moment.learned n)
-      → IsSearch formula parities (told s (Step (Delete n zs)))
-  delete_learned_keeps n zs high no_reason enough = tell (Delete n zs) tt refl (λ _. enough)
+      → IsInReduction s.events → IsSearch formula parities (told s (Step (Delete n zs)))
+  delete_learned_keeps n zs high no_reason enough reducing = tell (Delete n zs) tt refl (λ _. enough) (λ k ys is among. reducing)
       (drop_serves formula parities s.trail s.quiet_levels s.moment.tables n high no_reason ok.serves)
 
   pub delete_sum_keeps : (n : ℕ) (zs : List ℤ) → length parities < n → IsSearch formula parities (told s (Step (DeleteParity n zs)))
-  delete_sum_keeps n zs high = tell (DeleteParity n zs) tt refl tt (drop_parity_serves formula parities s.trail s.quiet_levels s.moment.tables n high ok.serves)
+  delete_sum_keeps n zs high = tell (DeleteParity n zs) tt refl tt (λ k ys is among. cc) (drop_parity_serves formula parities s.trail s.quiet_levels s.moment.tables n high ok.serves)
 
   -- the mark of a counted conflict
   keeps_formula : KeepsFormula formula s.moment.tables.clauses

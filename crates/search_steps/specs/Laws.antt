@@ -34,6 +34,7 @@ use Rattle.search_steps.specs.Ids.{ReasonsBelow, AreRowIds, HasFreeSums, IsRange
 use Rattle.search_steps.specs.LogSteps.{IsAddition, RestOnClauses, IsRowOf, IsClauseOfRow, IsRowReason, IsNoReason, IsEnded, AreTemporary, row_events, all_told, deleted, unit_told, after_round}
 use Rattle.search_steps.specs.Propagated.{IsPropagated}
 use Rattle.search_steps.specs.Quiet.{HasNoClash, RestsOn, IsOfParities, IsWatchedWell, ParitiesQuiet, ClausesQuiet, Quiet}
+use Rattle.search_steps.specs.Schedule.{IsInReduction}
 use Rattle.search_steps.specs.Recovering.{IsParityOf, HasRecovered, SettledWithRecovered}
 use Rattle.search_steps.specs.Search.{Search, IsSearch, IsServed, IsTidy, IsLearnedOf, told, decided_on, forced_on, jumped, marked}
 use Rattle.search_steps.specs.Start.{IsBegun, start}
@@ -182,11 +183,11 @@ abbrev pub DeletionsKeep : Type 0
 DeletionsKeep = OfSearch (λ formula parities s.
     (ids : List ℕ) → AreTemporary formula s ids → IsSearch formula parities (deleted s ids))
 
--- deleting a learned clause that is no reason keeps the search, where enough are left
+-- deleting a learned clause that is no reason keeps the search, where enough are left, in a reduction
 abbrev pub LearnedDeletionsKeep : Type 0
 LearnedDeletionsKeep = OfSearch (λ formula parities s.
     (n : ℕ) (zs : List ℤ) → length (clauses_of formula.constraints) < n → IsNoReason n s.trail → 1000 + 250 * s.moment.reductions ≤ length (without s.moment.learned n)
-    → IsSearch formula parities (told s (Step (Delete n zs))))
+    → IsInReduction s.events → IsSearch formula parities (told s (Step (Delete n zs))))
 
 -- a whole conflict keeps the search: the mark, the learned clause, the deletions, the jump back, and the literal that the clause forces
 abbrev pub RoundsKeep : Type 0

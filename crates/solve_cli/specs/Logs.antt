@@ -11,15 +11,17 @@ use Rattle.cx_judgements.specs.LogTexts.{LogOpen, LogRight, Budgeted}
 use Rattle.cx_texts.specs.LogText.{LogReads, EventsRead}
 use Rattle.cx_semantics.specs.Marked.{Marked, mark_of}
 use Rattle.search_steps.specs.Recovering.{SettledWithRecovered}
+use Rattle.search_steps.specs.Schedule.{IsScheduled}
 use Rattle.cx_desk.specs.Outside.{Bytes}
 
--- The log is marked fewer times than the budget, and never where propagation settles the formula; its ids are low.
+-- The log is marked fewer times than the budget, and never where propagation settles the formula; its ids are low, and learned clauses are deleted on schedule.
 pub record HasFewMarks (formula : Problem) (budget : ℕ) (log : Bytes) : Type 0 where
   pub events : List LogEvent
   pub read : EventsRead log events finished
   pub count : ℕ
   pub marked : Marked formula events count
   pub ids : AllByRecursion HasLowId events
+  pub scheduled : IsScheduled events
   pub few : count < budget
   pub settled : SettledWithRecovered formula → count ≡ 0
 
@@ -49,10 +51,15 @@ HasNoMark log = (events : List LogEvent) × EventsRead log events finished × (f
 abbrev pub HasOnlyLowIds : Bytes → Type 0
 HasOnlyLowIds log = (events : List LogEvent) × EventsRead log events finished × AllByRecursion HasLowId events
 
+-- learned clauses are deleted on schedule
+abbrev pub HasSchedule : Bytes → Type 0
+HasSchedule log = (events : List LogEvent) × EventsRead log events finished × IsScheduled events
+
 -- before the answer that the budget is spent
 pub record IsSpentLog (formula : Problem) (budget : ℕ) (log : Bytes) : Type 0 where
   pub marked : Budgeted formula log budget
   pub ids : HasOnlyLowIds log
+  pub scheduled : HasSchedule log
 
 -- the bytes are a prefix of a log all of whose steps are right and have low ids; where propagation settles the formula, it has no mark
 pub record IsLogSoFar (formula : Problem) (bytes : Bytes) : Type 0 where

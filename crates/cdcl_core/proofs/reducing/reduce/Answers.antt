@@ -6,7 +6,7 @@ use Rattle.cdcl_core.proofs.reducing.reduce.Goals as goal
 
 pub loop-reference-init : goal.loop-reference-init
 loop-reference-init g c = record {
-  reducing = record { loses = reduction_begins c.args.log.now.formula.now c.args.state.now (g.P.ParityEngine.state c.args.engine.now) (g.L.Sink.items c.args.log.now.sink.now) c.requires.stands; units = c.requires.units; going = c.requires.going };
+  reducing = record { loses = reduction_begins c.args.log.now.formula.now c.args.state.now (g.P.ParityEngine.state c.args.engine.now) (g.L.Sink.items c.args.log.now.sink.now) c.requires.stands c.requires.many c.requires.restart; units = c.requires.units; going = c.requires.going };
   conflicts = refl;
   log = log_rests g.L.Sink g.met.L.Sink.keeps_itself c.args.log.now;
   trail = refl;

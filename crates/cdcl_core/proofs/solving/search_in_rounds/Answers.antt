@@ -1,8 +1,10 @@
-use Rattle.std.proofs.Common.{◌+◌, ◌<◌, ◌∙◌, sym, subst, arith}
+use Rattle.std.proofs.Common.{◌+◌, ◌<◌, ◌∙◌, sym, ap, subst, arith}
 use Rattle.search_steps.specs.Recovering.{SettledWithRecovered}
 use Rattle.cdcl_search.specs.GoingOn.{log_rests, log_then}
 use Rattle.cdcl_core.specs.Results.{IsSettledBy}
 use Rattle.std.proofs.lemmas.Result.{err_from_is_err_and}
+use Rattle.cdcl_core.specs.declared.schedule.Schedule.{Schedule}
+use Rattle.cdcl_core.proofs.OnSchedule.{begins_on_schedule}
 use Rattle.cdcl_core.proofs.solving.search_in_rounds.Goals as goal
 
 pub round-requires-clause-settled : goal.round-requires-clause-settled
@@ -23,6 +25,7 @@ loop-assumptions-preserved g c =
       settled = λ s. absurd (rw c.in_default.is at (c.in_ok-outcome.ensures.settled (subst SettledWithRecovered then.searches_on.log.formula s) (i.settled (subst SettledWithRecovered (then.searches_on.log.formula ∙ leaves.log.formula) s)).0));
       clear = leaves.clear;
       keeps = then.keeps;
+      on = then.on;
       log = log_then g.L.Sink g.met.L.Sink.keeps_on _ c.round.new.log _ _ (log_then g.L.Sink g.met.L.Sink.keeps_on _ c.loop-assumptions.log _ _ i.log leaves.log) then.searches_on.log;
     }
 
@@ -72,9 +75,20 @@ loop-assumptions-init g c = record {
   };
   settled = λ s. (c.requires.begins.level, c.requires.begins.none);
   clear = c.new-marks.ensures;
+  on = begins_on_schedule c.new-schedule.result c.args.state.now.conflicts (ap (λ (s : Schedule). s.since) c.new-schedule.ensures) (ap (λ (s : Schedule). s.restarts) c.new-schedule.ensures) c.requires.begins.none;
   keeps = c.in_ok-assumptions.ensures c.args.state.now.trail c.requires.begins.stands.3.trail.variables c.requires.begins.level;
   log = log_rests g.L.Sink g.met.L.Sink.keeps_itself c.args.log.now;
 }
 
 pub follow_schedule-requires-clause-keeps : goal.follow_schedule-requires-clause-keeps
 follow_schedule-requires-clause-keeps g c = rw c.in_default.is at c.in_ok-outcome.ensures.leaves.keeps
+
+pub follow_schedule-requires-clause-on : goal.follow_schedule-requires-clause-on
+follow_schedule-requires-clause-on g c = (c.loop-assumptions.state.conflicts, rw c.in_default.is at c.in_ok-outcome.ensures.leaves.one_more, c.loop-assumptions.invariant.on)
+
+pub follow_schedule-requires-clause-few : goal.follow_schedule-requires-clause-few
+follow_schedule-requires-clause-few g c =
+    let goes_on = rw c.in_default.is at c.in_ok-outcome.ensures.leaves.goes_on in
+    let fewer = goes_on.fewer in
+    let bound = c.requires.budget.1 in
+    omega (arith, fewer, bound)

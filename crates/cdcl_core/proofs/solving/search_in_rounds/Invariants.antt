@@ -4,6 +4,7 @@ use Rattle.search_steps.specs.Recovering.{SettledWithRecovered}
 use Rattle.search_policy.specs.Assuming.{KeepsAssumptions}
 use Rattle.cdcl_search.specs.Logs.{GoesOn}
 use Rattle.cdcl_core.specs.Concluding.{SearchGoesOn}
+use Rattle.cdcl_core.specs.Scheduling.{IsOnSchedule}
 use Rattle.cdcl_core.proofs.solving.search_in_rounds.Given as goal
 
 abbrev pub invariant-loop-assumptions : goal.invariant-loop-assumptions
@@ -12,6 +13,7 @@ invariant-loop-assumptions g l = record {
   settled : SettledWithRecovered l.log.formula.now → (l.state.trail.level ≡ 0) × (l.state.conflicts ≡ 0);
   clear : AreClear l.marks;
   keeps : KeepsAssumptions l.log.formula.now.constraints l.assumptions l.state.trail;
+  on : IsOnSchedule l.schedule l.state.conflicts;
   log : GoesOn g.L.Sink l.fn.log None l.log;
 }
 

@@ -1,0 +1,76 @@
+-- Logs in which learned clauses are deleted on schedule.
+use Rattle.std.proofs.Common.{◌≡◌, refl, sym, ap, ◌∙◌, subst, ℕ, ◌+◌, ℤ, List, [], ◌∷◌, ◌++◌, append-nil, append_assoc, fold, ◌⊎◌, inl, inr}
+use Rattle.std.specs.Prelude.{IsTrue}
+use Rattle.std.proofs.lemmas.List.{map-append}
+use Rattle.cx_base.specs.Problem.{Problem}
+use Rattle.cx_base.specs.declared.constraint.Constraint.{Constraint}
+use Rattle.cx_base.specs.declared.constraint.Constraint.TheVariants as constraint
+use Rattle.cx_base.specs.declared.steps.LogStep.TheVariants.{Delete}
+use Rattle.cx_base.specs.declared.steps.LogEvent.{LogEvent}
+use Rattle.cx_base.specs.declared.steps.LogEvent.TheVariants.{Step, Conflict}
+use Rattle.cx_semantics.specs.Marked.{Moment, first_moment, after_event, is_among, EventsFit, original_events}
+use Rattle.search_steps.specs.Schedule.{MayReduce, IsInReduction, IsScheduled, moment_after, deletions_of}
+
+-- ---- lists that end alike
+-- one more event is the one at a place, or that place is before it
+last_or_before : (events : List LogEvent) (last : LogEvent) (front : List LogEvent) (x : LogEvent) (later : List LogEvent) → events ++ last ∷ [] ≡ front ++ x ∷ later
+    → ((events ≡ front) × (last ≡ x)) ⊎ ((rest : List LogEvent) × (events ≡ front ++ x ∷ rest))
+last_or_before [] last [] x later is = inl (refl, cc)
+last_or_before [] last (f ∷ []) x later is = cc
+last_or_before [] last (f ∷ g ∷ front) x later is = cc
+last_or_before (e ∷ events) last [] x later is = let same : e ≡ x = cc in inr (events, ap (λ y. y ∷ events) same)
+last_or_before (e ∷ events) last (f ∷ front) x later is =
+    let same : e ≡ f = cc in
+    let rest : events ++ last ∷ [] ≡ front ++ x ∷ later = cc in
+    elim (last_or_before events last front x later rest) [
+      | inl (these, is_x) ↦ inl (ap (λ es. e ∷ es) these ∙ ap (λ y. y ∷ front) same, is_x)
+      | inr (more, split) ↦ inr (more, ap (λ es. e ∷ es) split ∙ ap (λ y. y ∷ front ++ x ∷ more) same)
+    ]
+
+-- ---- what the next event finds
+fits_to : (formula : Problem) (first last : Moment) (events : List LogEvent) → EventsFit formula first events last → last ≡ fold after_event first events
+fits_to formula first last [] fit = fit
+fits_to formula first last (event ∷ events) fit = fits_to formula (after_event first event) last events fit.1
+
+pub moment_is : (formula : Problem) (last : Moment) (events : List LogEvent) → EventsFit formula first_moment events last → last ≡ moment_after events
+moment_is formula last events fit = fits_to formula first_moment last events fit
+
+-- ---- one more event
+-- the next event is no deletion of a learned clause, or there is a reduction
+abbrev pub MayFollow : List LogEvent → LogEvent → Type 0
+MayFollow events event = (n : ℕ) (zs : List ℤ) → event ≡ Step (Delete n zs) → IsTrue (is_among (moment_after events).learned n) → IsInReduction events
+
+pub scheduled_then : (events : List LogEvent) (event : LogEvent) → IsScheduled events → MayFollow events event → IsScheduled (events ++ event ∷ [])
+scheduled_then events event on may front n zs later split among = elim (last_or_before events event front (Step (Delete n zs)) later split) [
+  | inl (these, is) ↦ subst IsInReduction these (may n zs is (subst (λ (es : List LogEvent). IsTrue (is_among (moment_after es).learned n)) (sym these) among))
+  | inr (rest, is) ↦ on front n zs rest is among
+]
+
+pub mark_may_follow : (events : List LogEvent) (k : ℕ) → MayFollow events (Conflict k)
+mark_may_follow events k n zs is among = cc
+
+-- ---- the formula's constraints
+no_deletion : (n k : ℕ) (cs : List Constraint) (front : List LogEvent) (i : ℕ) (zs : List ℤ) (later : List LogEvent) → original_events n k cs ≡ front ++ Step (Delete i zs) ∷ later → ⊥
+no_deletion n k [] [] i zs later is = cc
+no_deletion n k [] (f ∷ front) i zs later is = cc
+no_deletion n k (constraint.Clause lits ∷ cs) [] i zs later is = cc
+no_deletion n k (constraint.Clause lits ∷ cs) (f ∷ front) i zs later is = let rest : original_events (n + 1) k cs ≡ front ++ Step (Delete i zs) ∷ later = cc in no_deletion (n + 1) k cs front i zs later rest
+no_deletion n k (constraint.Parity lits ∷ cs) [] i zs later is = cc
+no_deletion n k (constraint.Parity lits ∷ cs) (f ∷ front) i zs later is = let rest : original_events n (k + 1) cs ≡ front ++ Step (Delete i zs) ∷ later = cc in no_deletion n (k + 1) cs front i zs later rest
+no_deletion n k (constraint.Assume lits ∷ cs) front i zs later is = no_deletion n k cs front i zs later is
+
+pub originals_are_scheduled : (cs : List Constraint) (events : List LogEvent) → events ≡ original_events 1 1 cs → IsScheduled events
+originals_are_scheduled cs events are front n zs later split among = absurd (no_deletion 1 1 cs front n zs later (sym are ∙ split))
+
+-- ---- a reduction
+pub reduction_may_begin : (events : List LogEvent) → MayReduce events → IsInReduction events
+reduction_may_begin events may = record { front = events; ids = []; split = sym (append-nil events); may = may }
+
+pub reduction_goes_on : (events : List LogEvent) (n : ℕ) → IsInReduction events → IsInReduction (events ++ Step (Delete n []) ∷ [])
+reduction_goes_on events n r = record {
+  front = r.front;
+  ids = r.ids ++ n ∷ [];
+  split = ap (λ es. es ++ Step (Delete n []) ∷ []) r.split ∙ append_assoc r.front (deletions_of r.ids) (Step (Delete n []) ∷ [])
+      ∙ ap (λ es. r.front ++ es) (sym (map-append (λ k. Step (Delete k [])) r.ids (n ∷ [])));
+  may = r.may;
+}

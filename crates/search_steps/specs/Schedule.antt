@@ -1,0 +1,41 @@
+-- When a search deletes learned clauses, by the events of its log.
+use Rattle.std.specs.Prelude.{◌≡◌, ℕ, ◌+◌, ◌*◌, ◌≤◌, ◌<◌, ℤ, List, [], ◌∷◌, ◌++◌, length, map, fold, filter_map, get_or, IsTrue}
+use Rattle.std.specs.List.{sum}
+use Rattle.cx_base.specs.declared.steps.LogEvent.{LogEvent}
+use Rattle.cx_base.specs.declared.steps.LogEvent.TheVariants.{Step}
+use Rattle.cx_base.specs.declared.steps.LogStep.TheVariants.{Delete}
+use Rattle.cx_semantics.specs.Marked.{Moment, first_moment, after_event, mark_of, is_among}
+use Rattle.search_policy.specs.Restarts.{IsLuby}
+
+-- the first of Luby's numbers, in order
+pub record AreLuby (numbers : List ℕ) : Type 0 where
+  pub each : (i : ℕ) → i < length numbers → IsLuby (i + 1) (get_or numbers i 0)
+
+-- A search restarts after so many conflicts: a hundred for each one of the first of Luby's numbers together.
+abbrev pub IsRestart : ℕ → Type 0
+IsRestart conflicts = (numbers : List ℕ) × AreLuby numbers × (conflicts ≡ 100 * sum numbers)
+
+-- what the next event finds
+abbrev pub moment_after : List LogEvent → Moment
+moment_after events = fold after_event first_moment events
+
+-- Learned clauses may go: the search restarts, and 2000 of them are live, and 500 more for each earlier stretch between marks with a reduction.
+pub record MayReduce (events : List LogEvent) : Type 0 where
+  pub restart : IsRestart (length (filter_map mark_of events))
+  pub many : 2000 + 500 * (moment_after events).reductions ≤ length (moment_after events).learned
+
+-- the deletions of clauses of these ids
+abbrev pub deletions_of : List ℕ → List LogEvent
+deletions_of ids = map (λ n. Step (Delete n [])) ids
+
+-- nothing but deletions came since they might
+pub record IsInReduction (events : List LogEvent) : Type 0 where
+  pub front : List LogEvent
+  pub ids : List ℕ
+  pub split : events ≡ front ++ deletions_of ids
+  pub may : MayReduce front
+
+-- each deletion of a learned clause is one of a reduction
+abbrev pub IsScheduled : List LogEvent → Type 0
+IsScheduled events = (front : List LogEvent) (n : ℕ) (zs : List ℤ) (later : List LogEvent) → events ≡ front ++ Step (Delete n zs) ∷ later
+    → IsTrue (is_among (moment_after front).learned n) → IsInReduction front
