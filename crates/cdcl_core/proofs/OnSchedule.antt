@@ -1,30 +1,17 @@
 -- Counting conflicts up to the next restart.
 use Rattle.std.proofs.Common.{◌≡◌, refl, sym, ap, ◌∙◌, subst, ℕ, zero, suc, ◌+◌, ◌*◌, ◌/◌, ◌≤◌, ◌<◌, List, [], ◌∷◌, ◌++◌, length, length-append, get_or, ◌⊎◌, inl, inr, arith}
 use Rattle.std.specs.List.{sum}
-use Rattle.std.proofs.lemmas.Nat.{pow_pos}
 use Rattle.std.proofs.lemmas.List.{get_or_append_left, get_or-append-add}
-use Rattle.std.proofs.lemmas.List.Sums.{sum_by-append, sum_by-cons}
-use Rattle.search_policy.specs.Restarts.{IsLuby, IsDue, ends, repeats}
+use Rattle.std.proofs.lemmas.List.Sums.{sum_by-append}
+use Rattle.search_policy.specs.Restarts.{IsLuby, IsDue}
 use Rattle.search_steps.specs.Schedule.{AreLuby, IsRestart}
+use Rattle.search_steps.proofs.ScheduleLaws.{luby_is_some, sum_is_long}
 use Rattle.cdcl_core.specs.declared.schedule.Schedule.{Schedule}
 use Rattle.cdcl_core.specs.Scheduling.{IsOnSchedule}
 
 -- ---- Luby's numbers
-luby_is_some : {i v : ℕ} → IsLuby i v → 1 ≤ v
-luby_is_some (ends k end is) = let some = pow_pos k in omega (arith, is, some)
-luby_is_some (repeats k low high h) = luby_is_some h
-
 sum_push : (xs : List ℕ) (v : ℕ) → sum (xs ++ v ∷ []) ≡ sum xs + v
 sum_push xs v = let e = sum_by-append (λ (x : ℕ). x) xs (v ∷ []) in omega (arith, e)
-
--- a sum of numbers that are not zero is at least as great as there are numbers
-sum_is_long : (xs : List ℕ) → ((i : ℕ) → i < length xs → 1 ≤ get_or xs i 0) → length xs ≤ sum xs
-sum_is_long [] some = omega arith
-sum_is_long (x ∷ xs) some =
-    let first : 1 ≤ x = some 0 (omega arith) in
-    let rest = sum_is_long xs (λ i h. some (suc i) (omega (arith, h))) in
-    let total = sum_by-cons (λ (y : ℕ). y) x xs in
-    omega (arith, first, rest, total)
 
 luby_push : (numbers : List ℕ) (v : ℕ) → AreLuby numbers → IsLuby (length numbers + 1) v → AreLuby (numbers ++ v ∷ [])
 luby_push numbers v are next = record { each = λ i less. at i less (below i less) }

@@ -1,7 +1,10 @@
 -- Logs in which learned clauses are deleted on schedule.
-use Rattle.std.proofs.Common.{◌≡◌, refl, sym, ap, ◌∙◌, subst, ℕ, ◌+◌, ℤ, List, [], ◌∷◌, ◌++◌, append-nil, append_assoc, fold, ◌⊎◌, inl, inr}
+use Rattle.std.proofs.Common.{◌≡◌, refl, sym, ap, ◌∙◌, subst, ℕ, suc, ◌+◌, ◌^◌, ◌≤◌, ◌<◌, length, get_or, arith, ℤ, List, [], ◌∷◌, ◌++◌, append-nil, append_assoc, fold, ◌⊎◌, inl, inr}
 use Rattle.std.specs.Prelude.{IsTrue}
+use Rattle.std.specs.List.{sum}
+use Rattle.std.proofs.lemmas.Nat.{pow_pos}
 use Rattle.std.proofs.lemmas.List.{map-append}
+use Rattle.std.proofs.lemmas.List.Sums.{sum_by-cons}
 use Rattle.cx_base.specs.Problem.{Problem}
 use Rattle.cx_base.specs.declared.constraint.Constraint.{Constraint}
 use Rattle.cx_base.specs.declared.constraint.Constraint.TheVariants as constraint
@@ -9,12 +12,27 @@ use Rattle.cx_base.specs.declared.steps.LogStep.TheVariants.{Delete}
 use Rattle.cx_base.specs.declared.steps.LogEvent.{LogEvent}
 use Rattle.cx_base.specs.declared.steps.LogEvent.TheVariants.{Step, Conflict}
 use Rattle.cx_semantics.specs.Marked.{Moment, first_moment, after_event, is_among, EventsFit, original_events}
+use Rattle.search_policy.specs.Restarts.{IsLuby, ends, repeats}
 use Rattle.search_steps.specs.Schedule.{MayReduce, IsInReduction, IsScheduled, moment_after, deletions_of}
 
+-- ---- Luby's numbers
+pub luby_is_some : {i v : ℕ} → IsLuby i v → 1 ≤ v
+luby_is_some (ends k end is) = let some = pow_pos k in omega (arith, is, some)
+luby_is_some (repeats k low high h) = luby_is_some h
+
+-- a sum of numbers that are not zero is at least as great as there are numbers
+pub sum_is_long : (xs : List ℕ) → ((i : ℕ) → i < length xs → 1 ≤ get_or xs i 0) → length xs ≤ sum xs
+sum_is_long [] some = omega arith
+sum_is_long (x ∷ xs) some =
+    let first : 1 ≤ x = some 0 (omega arith) in
+    let rest = sum_is_long xs (λ i h. some (suc i) (omega (arith, h))) in
+    let total = sum_by-cons (λ (y : ℕ). y) x xs in
+    omega (arith, first, rest, total)
+
 -- ---- lists that end alike
--- one more event is the one at a place, or that place is before it
-last_or_before : (events : List LogEvent) (last : LogEvent) (front : List LogEvent) (x : LogEvent) (later : List LogEvent) → events ++ last ∷ [] ≡ front ++ x ∷ later
-    → ((events ≡ front) × (last ≡ x)) ⊎ ((rest : List LogEvent) × (events ≡ front ++ x ∷ rest))
+-- one more item is the one at a place, or that place is before it
+pub last_or_before : {I : Type 0} (events : List I) (last : I) (front : List I) (x : I) (later : List I) → events ++ last ∷ [] ≡ front ++ x ∷ later
+    → ((events ≡ front) × (last ≡ x)) ⊎ ((rest : List I) × (events ≡ front ++ x ∷ rest))
 last_or_before [] last [] x later is = inl (refl, cc)
 last_or_before [] last (f ∷ []) x later is = cc
 last_or_before [] last (f ∷ g ∷ front) x later is = cc

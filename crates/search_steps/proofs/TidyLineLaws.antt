@@ -1,43 +1,21 @@
 -- Tidy lines, one after another.
-use Rattle.std.proofs.Common.{◌≡◌, refl, sym, ap, ◌∙◌, subst, ℕ, zero, suc, ◌+◌, ◌^◌, ◌≤◌, ◌<◌, ◌⊎◌, inl, inr, List, [], ◌∷◌, ◌++◌, filter_map, length, arith, length-append}
-use Rattle.std.proofs.lemmas.Nat.{pow_pos}
+use Rattle.std.proofs.Common.{◌≡◌, refl, sym, ap, ◌∙◌, subst, ℕ, zero, suc, ◌+◌, ◌≤◌, ◌<◌, inl, inr, List, [], ◌∷◌, ◌++◌, filter_map, length, arith, length-append}
 use Rattle.std.proofs.lemmas.List.Elements.{filter_map-append}
 use Rattle.cx_base.specs.Lines.{Line, item, tidy, items_of, item_of}
 use Rattle.cx_base.specs.declared.steps.LogEvent.{LogEvent}
 use Rattle.cx_semantics.specs.Marked.{mark_of}
-use Rattle.search_policy.specs.Restarts.{IsLuby, ends, repeats}
-use Rattle.search_steps.specs.TidyLines.{IsLubySum, IsRestartAt, marks_in, tidy_lines_in, TidiedInTime, LineFits}
+use Rattle.search_steps.specs.Schedule.{IsRestartAt}
+use Rattle.search_steps.specs.TidyLines.{marks_in, tidy_lines_in, TidiedInTime, LineFits}
+use Rattle.search_steps.proofs.ScheduleLaws.{last_or_before, luby_is_some, sum_is_long}
 
 -- ---- one more line
-
--- where a line is added, each line is one of the earlier ones or the last
-one_of : (lines front later : List (Line LogEvent)) (l k : Line LogEvent) → lines ++ l ∷ [] ≡ front ++ k ∷ later → ((rest : List (Line LogEvent)) × (lines ≡ front ++ k ∷ rest)) ⊎ ((front ≡ lines) × (k ≡ l))
-one_of [] [] later l k e = let h : l ≡ k = cc (e) in inr (refl, sym h)
-one_of [] (f ∷ []) later l k e = cc
-one_of [] (f ∷ g ∷ front) later l k e = cc
-one_of (x ∷ lines) [] later l k e = let h : x ≡ k = cc (e) in inl (lines, ap (λ (y : Line LogEvent). y ∷ lines) h)
-one_of (x ∷ lines) (f ∷ front) later l k e =
-    let h : x ≡ f = cc (e) in
-    let t : lines ++ l ∷ [] ≡ front ++ k ∷ later = cc (e) in
-    elim (one_of lines front later l k t) [
-      | inl r ↦ inl (r.0, λ i. h i ∷ r.1 i)
-      | inr s ↦ inr ((λ i. sym h i ∷ s.0 i), s.1)
-    ]
-
 pub go_on : (lines : List (Line LogEvent)) (l : Line LogEvent) → TidiedInTime lines → LineFits lines l → TidiedInTime (lines ++ l ∷ [])
-go_on lines l fit next front later k e = elim (one_of lines front later l k e) [
-  | inl r ↦ fit front r.0 k r.1
-  | inr s ↦ subst (λ (x : List (Line LogEvent)). LineFits x k) (sym s.0) (subst (LineFits lines) (sym s.1) next)
+go_on lines l fit next front later k e = elim (last_or_before lines l front k later e) [
+  | inl s ↦ subst (λ (x : List (Line LogEvent)). LineFits x k) s.0 (subst (LineFits lines) s.1 next)
+  | inr r ↦ fit front r.0 k r.1
 ]
 
 -- ---- no tidy line before the hundredth mark
-
-some_number : {i v : ℕ} → IsLuby i v → 1 ≤ v
-some_number (ends k e is) = let p : 0 < 2 ^ k = pow_pos k in omega arith
-some_number (repeats k low high h) = some_number h
-
-some_sum : (r total : ℕ) → IsLubySum (suc r) total → 1 ≤ total
-some_sum r total (before, v, sum, luby, is) = let h = some_number luby in omega arith
 
 -- a tidy line is there, with what is before it
 first_tidy : (lines : List (Line LogEvent)) → 0 < tidy_lines_in lines → (front : List (Line LogEvent)) × (r : ℕ) × (later : List (Line LogEvent)) × (lines ≡ front ++ tidy r ∷ later)
@@ -53,7 +31,7 @@ fewer_marks front later =
     omega arith
 
 late : (r m : ℕ) → IsRestartAt (r + 1) m → 100 ≤ m
-late r m (total, sum, is) = let h = some_sum r total (subst (λ (n : ℕ). IsLubySum n total) (let e : r + 1 ≡ suc r = omega arith in e) sum) in omega arith
+late r m (numbers, are, count, is) = let h = sum_is_long numbers (λ i less. luby_is_some (are.each i less)) in omega (arith, h, count, is)
 
 none_by : (lines : List (Line LogEvent)) (n : ℕ) → tidy_lines_in lines ≡ n → TidiedInTime lines → marks_in lines < 100 → n ≡ 0
 none_by lines zero is fit few = refl

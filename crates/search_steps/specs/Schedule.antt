@@ -15,6 +15,10 @@ pub record AreLuby (numbers : List ℕ) : Type 0 where
 abbrev pub IsRestart : ℕ → Type 0
 IsRestart conflicts = (numbers : List ℕ) × AreLuby numbers × (conflicts ≡ 100 * sum numbers)
 
+-- restart r comes after so many: a hundred for each one of the first r of them
+abbrev pub IsRestartAt : ℕ → ℕ → Type 0
+IsRestartAt r conflicts = (numbers : List ℕ) × AreLuby numbers × (length numbers ≡ r) × (conflicts ≡ 100 * sum numbers)
+
 -- what the next event finds
 abbrev pub moment_after : List LogEvent → Moment
 moment_after events = fold after_event first_moment events

@@ -1,27 +1,15 @@
 -- Where a log says that its clauses are tidy.
-use Rattle.std.specs.Prelude.{◌≡◌, ◌≢◌, ℕ, zero, suc, ◌+◌, ◌*◌, ◌≤◌, List, ◌∷◌, ◌++◌, fold, filter_map, length, Option, Some, None, IsFalse, Contains, ⊤}
+use Rattle.std.specs.Prelude.{◌≡◌, ◌≢◌, ℕ, ◌+◌, ◌≤◌, List, ◌∷◌, ◌++◌, filter_map, length, Option, Some, None, IsFalse, Contains, ⊤}
 use Rattle.cx_base.specs.Literals.{Literal}
 use Rattle.cx_base.specs.Lines.{Line, item, tidy, items_of}
 use Rattle.cx_base.specs.declared.steps.LogEvent.{LogEvent}
 use Rattle.cx_base.specs.declared.steps.LogEvent.TheVariants.{Step, Conflict}
-use Rattle.cx_semantics.specs.Marked.{Moment, first_moment, after_event, mark_of, clause_at}
+use Rattle.cx_semantics.specs.Marked.{mark_of, clause_at}
 use Rattle.cx_semantics.specs.Tables.{Table, get}
-use Rattle.search_policy.specs.Restarts.{IsLuby}
 use Rattle.tidy_rules.specs.Tidied.{TidiedBy}
+use Rattle.search_steps.specs.Schedule.{IsRestartAt, moment_after}
 
--- the sum of the first r of Luby's numbers
-abbrev pub IsLubySum : ℕ → ℕ → Type 0
-IsLubySum zero total = total ≡ 0
-IsLubySum (suc r) total = (before : ℕ) × (v : ℕ) × IsLubySum r before × IsLuby (suc r) v × (total ≡ before + v)
-
--- restart r is due at mark m, after a hundred conflicts for each one of these numbers
-abbrev pub IsRestartAt : ℕ → ℕ → Type 0
-IsRestartAt r m = (total : ℕ) × IsLubySum r total × (m ≡ 100 * total)
-
--- what the next event finds, how many marks there are, and how many tidy lines
-abbrev pub moment_after : List (Line LogEvent) → Moment
-moment_after lines = fold after_event first_moment (items_of lines)
-
+-- how many marks there are, and how many tidy lines
 abbrev pub marks_in : List (Line LogEvent) → ℕ
 marks_in lines = length (filter_map mark_of (items_of lines))
 
@@ -48,8 +36,8 @@ AreTidyClauses table = TidiedBy (λ n. (clause : List Literal) × (get table n �
 pub record TidyFits (front : List (Line LogEvent)) (r : ℕ) : Type 0 where
   pub next : r ≡ tidy_lines_in front + 1
   pub due : IsRestartAt r (marks_in front)
-  pub served : IsFalse (moment_after front).awaits
-  pub tidied : AreTidyClauses (moment_after front).tables.clauses
+  pub served : IsFalse (moment_after (items_of front)).awaits
+  pub tidied : AreTidyClauses (moment_after (items_of front)).tables.clauses
 
 -- the tidy line of each restart that was due by these marks is there
 abbrev pub NoneIsMissing : List (Line LogEvent) → Type 0
