@@ -23,7 +23,7 @@ use Rattle.cdcl_search.specs.declared.logs.SearchLog.{SearchLog}
 use Rattle.cdcl_search.specs.Logs.{GoesOn}
 use Rattle.cdcl_search.specs.Tells.{IsLeft, GivesUp, HaveLowIds, HasNoMark}
 use Rattle.cdcl_search.specs.Ties.{SearchStands}
-use Rattle.cdcl_core.specs.declared.solving.Outcome.TheVariants.{Sat, Unsat, Unknown}
+use Rattle.cdcl_core.specs.declared.solving.SearchOutcome.TheVariants.{Sat, Unsat, Unknown}
 use Rattle.cdcl_core.specs.Learning.{Learns}
 use Rattle.cdcl_core.specs.Results.{IsOpenWith, IsFresh, Refutes}
 use Rattle.cdcl_core.proofs.OriginalLaws.{left_by}

@@ -31,7 +31,7 @@ use Rattle.cdcl_core.specs.declared.conflicts.Conclusion.TheVariants.{Clause}
 use Rattle.cdcl_core.specs.declared.conflicts.Conflict.{Conflict}
 use Rattle.cdcl_core.specs.Concluding.{Concludes, EndsLog, IsEndedWith, IsRowAgainst, IsClauseAgainst}
 use Rattle.cdcl_core.specs.Shortening.{AreShort, EndsByRow, HasNoUnit, short_row_events}
-use Rattle.cdcl_core.specs.declared.conflicts.Ending.{Ending}
+use Rattle.cdcl_core.specs.declared.conflicts.LogEnd.{LogEnd}
 use Rattle.cdcl_core.specs.declared.shortening.UnitClause.{UnitClause}
 use Rattle.cdcl_core.proofs.ShortLaws.{known_by, short_by, IsUnitIn, IsReadyToEnd, IsLeftOfRow, ready_to_end, is_left, told_units, left_inside, left_is_unmet, left_fails, left_ends, negations_all, false_negations}
 use Rattle.conflict_learn.specs.Learning.{IsAntecedent}
@@ -115,7 +115,7 @@ module _ (formula : Problem) (c : SearchState) (e : State) (told : Option (List 
       row_is_short = short_by formula c e [] st.0 st.1 st.3 reason row_explains
 
       -- the steps of a row whose clause is an ending clause
-      module _ (ends : is_ending formula.constraints reason.clause ≡ true) (n : Ending) (by : EndsByRow c (length formula.constraints) reason n) where
+      module _ (ends : is_ending formula.constraints reason.clause ≡ true) (n : LogEnd) (by : EndsByRow c (length formula.constraints) reason n) where
         abbrev left : List Literal
         left = by.short.left
 

@@ -46,7 +46,7 @@ use Rattle.cdcl_search.proofs.RowSteps.{all_told_are, clause_within}
 use Rattle.cdcl_search.proofs.TableLaws.{no_clause, put_same, put_other}
 use Rattle.cdcl_core.specs.Concluding.{EndsLog, IsEndedWith}
 use Rattle.cdcl_core.specs.Shortening.{ArePartedInto, IsToldUnit, EndsByUnits, late_unit_events, late_units_from, short_row_events}
-use Rattle.cdcl_core.specs.declared.conflicts.Ending.{Ending}
+use Rattle.cdcl_core.specs.declared.conflicts.LogEnd.{LogEnd}
 use Rattle.cdcl_core.specs.declared.shortening.UnitClause.{UnitClause}
 use Rattle.cdcl_core.proofs.AgainstLaws.{both_assumed_clash}
 use Rattle.cdcl_core.proofs.LateSteps.{late_count}
@@ -168,7 +168,7 @@ late_parts (l ∷ lits) n = inr (record { literal = negate l; id = n }, late_uni
 
 module _ (formula : Problem) (c : SearchState) (e : State) (rows : List (List Literal)) (told_ : Option (List LogEvent)) (st : SearchStands formula c e rows told_) (r : ReasonOf) (x : Explains e.parities c.trail r)
     (false_now : (m : Literal) → has_literal r.clause m ≡ true → IsFalseIn c.trail.entries m) (ends : is_ending formula.constraints r.clause ≡ true) (level : c.trail.level ≡ 0)
-    (resolved : List Literal) (f : Follows c.trail r.clause (IsSourced c rows) resolved []) (live : (clause : List Literal) → IsSourced c rows clause → IsLiveSet st.0.moment.tables.clauses clause) (n : Ending)
+    (resolved : List Literal) (f : Follows c.trail r.clause (IsSourced c rows) resolved []) (live : (clause : List Literal) → IsSourced c rows clause → IsLiveSet st.0.moment.tables.clauses clause) (n : LogEnd)
     (by : EndsByUnits c (length formula.constraints) (length rows) r n) where
   abbrev s : Search
   s = st.0

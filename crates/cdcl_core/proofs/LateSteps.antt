@@ -14,7 +14,7 @@ use Rattle.cdcl_search.specs.Tells.{AreIdsFrom, AreStepsOf, IsId, IsStep}
 use Rattle.cdcl_search.specs.Ties.{first_row_id}
 use Rattle.xor_reason.specs.declared.reason.ReasonOf.{ReasonOf}
 use Rattle.cdcl_core.specs.Shortening.{ArePartedInto, EndsBy, EndsByUnits, IsShortened, IsToldUnit, late_unit_events, late_units_from}
-use Rattle.cdcl_core.specs.declared.conflicts.Ending.{Ending}
+use Rattle.cdcl_core.specs.declared.conflicts.LogEnd.{LogEnd}
 use Rattle.cdcl_core.specs.declared.shortening.Shortened.{Shortened}
 use Rattle.cdcl_core.specs.declared.shortening.UnitClause.{UnitClause}
 use Rattle.cdcl_core.proofs.ShortSteps.{step_more, next_of, taken_count}
@@ -67,7 +67,7 @@ module _ (first i : ℕ) (lits : List Literal) (l : Literal) (less : i < length 
   late_unit before units now are pushed = pushed ∙ ap (λ us. us ++ u ∷ []) are ∙ append_assoc before (late_units_from first (take i lits)) (u ∷ []) ∙ ap (λ us. before ++ us) (sym taken)
 
 -- the last steps after these unit clauses
-pub ends_by_units : (r : Result Ending AllocError) (c : SearchState) (constraints rows : ℕ) (reason : ReasonOf) (short : Shortened) → IsShortened c reason.clause short → (hints : List ℤ) (last : Shortened)
+pub ends_by_units : (r : Result LogEnd AllocError) (c : SearchState) (constraints rows : ℕ) (reason : ReasonOf) (short : Shortened) → IsShortened c reason.clause short → (hints : List ℤ) (last : Shortened)
     → last.units.items ≡ short.units.items ++ late_units_from (first_row_id c.next + rows) short.left → last.left ≡ [] → (id : ℕ) → id ≡ first_row_id c.next + rows + length short.left
     → (before : List LogEvent) → before ≡ late_unit_events hints (late_units_from (first_row_id c.next + rows) short.left) → IfOk r (EndsBy constraints id reason.sources last before) → IfOk r (EndsByUnits c constraints rows reason)
 ends_by_units (Ok e) c constraints rows reason short shortened hints last units nothing id number before are h = record {

@@ -18,8 +18,8 @@ use Rattle.step_text.specs.declared.sink.Sink as sink
 use Rattle.cdcl_search.specs.Tells.{IsLeft, GivesUp, IsTorn, with_events}
 use Rattle.cdcl_core.specs.Narrowing.{narrowed, over, padded_answer, Searched}
 use Rattle.cdcl_core.specs.Results.{IsFresh, IsOpenWith, IsRightOutcome}
-use Rattle.cdcl_core.specs.declared.solving.Outcome.{Outcome}
-use Rattle.cdcl_core.specs.declared.solving.Outcome.TheVariants.{Sat, Unsat, Unknown}
+use Rattle.cdcl_core.specs.declared.solving.SearchOutcome.{SearchOutcome}
+use Rattle.cdcl_core.specs.declared.solving.SearchOutcome.TheVariants.{Sat, Unsat, Unknown}
 use Rattle.cdcl_core.proofs.Answering.{fresh_is_left, fresh_is_low, fresh_has_no_mark}
 use Rattle.cdcl_core.proofs.NarrowLogs.{open_over_more, ends_over_more, marked_over_more}
 use Rattle.cdcl_core.proofs.NarrowSettled.{LooksBelow, given_looks, recovered_looks, settled_over_fewer}
@@ -83,7 +83,7 @@ module _ (m : ℕ) (formula : Problem) (few : m ≤ formula.variables) (within :
 
   -- ---- answers
 
-  answer_over_more : (budget : ℕ) (told : Option (List LogEvent)) (answer : Outcome) → IsRightOutcome (over m formula) budget told answer → IsRightOutcome formula budget told (padded_answer formula.variables answer)
+  answer_over_more : (budget : ℕ) (told : Option (List LogEvent)) (answer : SearchOutcome) → IsRightOutcome (over m formula) budget told answer → IsRightOutcome formula budget told (padded_answer formula.variables answer)
   answer_over_more budget told (Sat values) s = record { meets = padded_meets m formula values few within s.meets; log = (s.log.0, s.log.1, open_with_over_more s.log.0 told s.log.2) }
   answer_over_more budget None (Unsat failed) r = record { unmet = unmet_over_more m formula within r.unmet; fails = failed_over_more failed r.fails; clash = r.clash; log = tt }
   answer_over_more budget (Some events) (Unsat failed) r = record {
@@ -95,13 +95,13 @@ module _ (m : ℕ) (formula : Problem) (few : m ≤ formula.variables) (within :
   answer_over_more budget told (Unknown conflicts) u = record { count = u.count; log = open_with_over_more budget told u.log }
 
   -- after an answer the log is right as far as it goes
-  left_by_answer : (budget : ℕ) (told : Option (List LogEvent)) (answer : Outcome) → IsRightOutcome (over m formula) budget told answer → IsLeft formula told
+  left_by_answer : (budget : ℕ) (told : Option (List LogEvent)) (answer : SearchOutcome) → IsRightOutcome (over m formula) budget told answer → IsLeft formula told
   left_by_answer budget None answer h = tt
   left_by_answer budget (Some events) (Sat values) s = inl (open_over_more m formula few (steps_of events) s.log.2.0)
   left_by_answer budget (Some events) (Unsat failed) r = inr (ended_over_more events r.log.0.ended)
   left_by_answer budget (Some events) (Unknown conflicts) u = inl (open_over_more m formula few (steps_of events) u.log.0)
 
-  still_known : (answer : Outcome) → ((conflicts : ℕ) → answer ≡ Unknown conflicts → ⊥) → (conflicts : ℕ) → padded_answer formula.variables answer ≡ Unknown conflicts → ⊥
+  still_known : (answer : SearchOutcome) → ((conflicts : ℕ) → answer ≡ Unknown conflicts → ⊥) → (conflicts : ℕ) → padded_answer formula.variables answer ≡ Unknown conflicts → ⊥
   still_known (Sat values) known conflicts e = cc
   still_known (Unsat failed) known conflicts e = cc
   still_known (Unknown n) known conflicts e = known n refl
@@ -139,7 +139,7 @@ module _ (m : ℕ) (formula : Problem) (few : m ≤ formula.variables) (within :
   -- ---- the whole promise
 
   module _ {L : Type 0} (s : sink.Ghosts L LogEvent) (budget : ℕ) (old new : L) where
-    pub searched_answer : (answer : Outcome) → Searched s (over m formula) budget old new (Ok answer) → Searched s formula budget old new (Ok (padded_answer formula.variables answer))
+    pub searched_answer : (answer : SearchOutcome) → Searched s (over m formula) budget old new (Ok answer) → Searched s formula budget old new (Ok (padded_answer formula.variables answer))
     searched_answer answer h = record {
       answers = answer_over_more budget (s.items new) answer h.answers;
       settled = λ q. still_known answer (h.settled_with_recovered (settled_over_fewer_with (settled_by_its_own formula q)));
@@ -168,7 +168,7 @@ module _ (m : ℕ) (formula : Problem) (few : m ≤ formula.variables) (within :
     }
 
     -- an answer came, and there is no memory for its further values
-    pub searched_no_room : (answer : Outcome) → Searched s (over m formula) budget old new (Ok answer) → Searched s formula budget old new (Err Memory)
+    pub searched_no_room : (answer : SearchOutcome) → Searched s (over m formula) budget old new (Ok answer) → Searched s formula budget old new (Err Memory)
     searched_no_room answer h = record {
       answers = tt;
       settled = λ q. tt;
@@ -205,12 +205,12 @@ module _ {L : Type 0} (s : sink.Ghosts L LogEvent) (formula narrow : Problem) (i
   all_used : AllWithin (greatest_variable 0 formula.constraints) formula.constraints
   all_used = subst (λ (f : Problem). AllWithin f.variables f.constraints) is narrow_within.1
 
-  pub narrowed_answer : (answer last : Outcome) → last ≡ padded_answer formula.variables answer → Searched s narrow budget old new (Ok answer) → Searched s formula budget old new (Ok last)
+  pub narrowed_answer : (answer last : SearchOutcome) → last ≡ padded_answer formula.variables answer → Searched s narrow budget old new (Ok answer) → Searched s formula budget old new (Ok last)
   narrowed_answer answer last e h = subst (λ a. Searched s formula budget old new (Ok a)) (sym e)
       (searched_answer (greatest_variable 0 formula.constraints) formula few all_used s budget old new answer (subst (λ (f : Problem). Searched s f budget old new (Ok answer)) is h))
 
   pub narrowed_fault : (fault : CoreFault) → Searched s narrow budget old new (Err fault) → Searched s formula budget old new (Err fault)
   narrowed_fault fault h = searched_fault (greatest_variable 0 formula.constraints) formula few all_used s budget old new fault (subst (λ (f : Problem). Searched s f budget old new (Err fault)) is h)
 
-  pub narrowed_no_room : (answer : Outcome) → Searched s narrow budget old new (Ok answer) → Searched s formula budget old new (Err Memory)
+  pub narrowed_no_room : (answer : SearchOutcome) → Searched s narrow budget old new (Ok answer) → Searched s formula budget old new (Err Memory)
   narrowed_no_room answer h = searched_no_room (greatest_variable 0 formula.constraints) formula few all_used s budget old new answer (subst (λ (f : Problem). Searched s f budget old new (Ok answer)) is h)

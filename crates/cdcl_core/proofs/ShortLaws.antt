@@ -52,7 +52,7 @@ use Rattle.cdcl_core.specs.Results.{EndsFor}
 use Rattle.xor_reason.specs.ReasonClause.{AreFalseBut}
 use Rattle.std.specs.Prelude.{IfOk, Result, Ok, Err}
 use Rattle.std.specs.declared.alloc.AllocError.{AllocError}
-use Rattle.cdcl_core.specs.declared.conflicts.Ending.{Ending}
+use Rattle.cdcl_core.specs.declared.conflicts.LogEnd.{LogEnd}
 use Rattle.cdcl_core.specs.declared.shortening.Shortened.{Shortened}
 use Rattle.cdcl_core.specs.Shortening.{AreShort, ArePartedInto, EndsBy, EndsByRow, IsShortened, IsToldUnit, unit_parity_events, short_row_events}
 use Rattle.cdcl_core.specs.declared.shortening.UnitClause.{UnitClause}
@@ -374,7 +374,7 @@ module _ (formula : Problem) (c : SearchState) (e : State) (rows : List (List Li
     }
 
 -- the last steps after none, by what is left of the row's clause
-pub ends_by_row : (r : Result Ending AllocError) (c : SearchState) (constraints : ℕ) (reason : ReasonOf) (short : Shortened) → IsShortened c reason.clause short → (n : ℕ) → n ≡ first_row_id c.next → (before : List LogEvent) → before ≡ []
+pub ends_by_row : (r : Result LogEnd AllocError) (c : SearchState) (constraints : ℕ) (reason : ReasonOf) (short : Shortened) → IsShortened c reason.clause short → (n : ℕ) → n ≡ first_row_id c.next → (before : List LogEvent) → before ≡ []
     → IfOk r (EndsBy constraints n reason.sources short before) → IfOk r (EndsByRow c constraints reason)
 ends_by_row (Ok e) c constraints reason short s n id before none h = record { short = short; shortened = s; ends = subst (λ m. EndsBy constraints m reason.sources short [] e) id (subst (λ es. EndsBy constraints n reason.sources short es e) none h) }
 ends_by_row (Err x) c constraints reason short s n id before none h = tt

@@ -15,8 +15,8 @@ use Rattle.step_text.specs.declared.sink.Sink as sink
 use Rattle.cdcl_search.specs.Tells.{GivesUp, HasFailedBy, HaveLowIds, HasNoMark}
 use Rattle.cdcl_core.specs.Results.{IsRightOutcome}
 use Rattle.cdcl_core.specs.declared.narrowing.TheConstants.{MANY_VARIABLES}
-use Rattle.cdcl_core.specs.declared.solving.Outcome.{Outcome}
-use Rattle.cdcl_core.specs.declared.solving.Outcome.TheVariants.{Sat, Unsat, Unknown}
+use Rattle.cdcl_core.specs.declared.solving.SearchOutcome.{SearchOutcome}
+use Rattle.cdcl_core.specs.declared.solving.SearchOutcome.TheVariants.{Sat, Unsat, Unknown}
 
 -- no literal is of a variable above the last
 abbrev pub are_up_to : ℕ → List Literal → Bool
@@ -43,13 +43,13 @@ abbrev pub padded : ℕ → List Bool → List Bool
 padded n values = take n values ++ replicate (n - length values) false
 
 -- an answer with padded values
-abbrev pub padded_answer : ℕ → Outcome → Outcome
+abbrev pub padded_answer : ℕ → SearchOutcome → SearchOutcome
 padded_answer n (Sat values) = Sat (padded n values)
 padded_answer n (Unsat failed) = Unsat failed
 padded_answer n (Unknown conflicts) = Unknown conflicts
 
 -- What a search of the formula comes to, and what it leaves of a sink that was told nothing.
-pub record Searched {L : Type 0} (m : sink.Ghosts L LogEvent) (formula : Problem) (budget : ℕ) (old new : L) (result : Result Outcome CoreFault) : Type 0 where
+pub record Searched {L : Type 0} (m : sink.Ghosts L LogEvent) (formula : Problem) (budget : ℕ) (old new : L) (result : Result SearchOutcome CoreFault) : Type 0 where
   pub answers : IfOk result (λ a. IsRightOutcome formula budget (m.items new) a)
   pub settled : Settled formula → IfOk result (λ a. (conflicts : ℕ) → a ≢ Unknown conflicts)
   pub settled_with_recovered : SettledWithRecovered formula → IfOk result (λ a. (conflicts : ℕ) → a ≢ Unknown conflicts)

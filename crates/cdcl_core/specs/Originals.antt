@@ -12,7 +12,7 @@ use Rattle.step_text.specs.declared.sink.Sink as sink
 use Rattle.cdcl_search.specs.declared.logs.SearchLog.{SearchLog}
 use Rattle.cdcl_search.specs.Logs.{told_in}
 use Rattle.cdcl_search.specs.Ties.{AreNumbered}
-use Rattle.cdcl_core.specs.declared.originals.Counts.{Counts}
+use Rattle.cdcl_core.specs.declared.originals.ToldCounts.{ToldCounts}
 
 -- the lists are under their numbers, from 1
 pub record AreListedFromOne (table : Table) (lists : List (List Literal)) : Type 0 where
@@ -29,6 +29,6 @@ pub record AreCounted (taken : List Constraint) (n k : ℕ) : Type 0 where
   pub parities : k ≡ length (parities_of taken)
 
 -- the constraints before this place are told and counted
-pub record HasTaken {L : Type 0} (m : sink.Ghosts L LogEvent) (log : SearchLog L) (place : ℕ) (counts : Counts) : Type 0 where
+pub record HasTaken {L : Type 0} (m : sink.Ghosts L LogEvent) (log : SearchLog L) (place : ℕ) (counts : ToldCounts) : Type 0 where
   pub counted : AreCounted (take place log.formula.now.constraints) counts.clauses counts.parities
   pub begun : HasBegun log.formula.now (take place log.formula.now.constraints) (told_in m log)

@@ -11,8 +11,8 @@ use Rattle.cx_base.specs.Events.{steps_of}
 use Rattle.cx_semantics.specs.Marked.{Marked}
 use Rattle.search_steps.specs.LogSteps.{IsEnded, LastRefutes}
 use Rattle.search_steps.specs.Schedule.{IsScheduled}
-use Rattle.cdcl_core.specs.declared.solving.Outcome.{Outcome}
-use Rattle.cdcl_core.specs.declared.solving.Outcome.TheVariants.{Sat, Unsat, Unknown}
+use Rattle.cdcl_core.specs.declared.solving.SearchOutcome.{SearchOutcome}
+use Rattle.cdcl_core.specs.declared.solving.SearchOutcome.TheVariants.{Sat, Unsat, Unknown}
 
 -- where the events are told, there is none yet
 abbrev pub IsFresh : Option (List LogEvent) → Type 0
@@ -60,11 +60,11 @@ pub record UsesUp (formula : Problem) (budget : ℕ) (told : Option (List LogEve
   pub log : IsOpenWith formula budget told
 
 -- what an answer says of the formula and of the log
-abbrev pub IsRightOutcome : Problem → ℕ → Option (List LogEvent) → Outcome → Type 0
+abbrev pub IsRightOutcome : Problem → ℕ → Option (List LogEvent) → SearchOutcome → Type 0
 IsRightOutcome formula budget told (Sat values) = Satisfies formula budget told values
 IsRightOutcome formula budget told (Unsat failed) = Refutes formula budget told failed
 IsRightOutcome formula budget told (Unknown conflicts) = UsesUp formula budget told conflicts
 
 -- an answer that is not unknown, with fewer marks than this
-abbrev pub IsSettledBy : Problem → ℕ → Option (List LogEvent) → Outcome → Type 0
+abbrev pub IsSettledBy : Problem → ℕ → Option (List LogEvent) → SearchOutcome → Type 0
 IsSettledBy formula budget told outcome = IsRightOutcome formula budget told outcome × ((conflicts : ℕ) → outcome ≢ Unknown conflicts)

@@ -13,7 +13,7 @@ use Rattle.cdcl_search.specs.Rows.{sum_and_clause_events}
 use Rattle.cdcl_search.specs.Tells.{AreStepsOf}
 use Rattle.cdcl_search.specs.Ties.{first_row_id}
 use Rattle.cdcl_search.specs.declared.state.SearchState.{SearchState}
-use Rattle.cdcl_core.specs.declared.conflicts.Ending.{Ending}
+use Rattle.cdcl_core.specs.declared.conflicts.LogEnd.{LogEnd}
 use Rattle.cdcl_core.specs.declared.shortening.Shortened.{Shortened}
 use Rattle.cdcl_core.specs.declared.shortening.UnitClause.{UnitClause}
 
@@ -49,12 +49,12 @@ short_row_events k sources units left n =
     unit_parity_events k units ++ sum_and_clause_events (k + length units) (integers_of left) (sources ++ range_with_len k (length units)) n (integers_of left)
 
 -- the steps of some events, and after them those of a row without the literals of units, whose clause has this id; what fails are the negations of what is left
-pub record EndsBy (constraints n : ℕ) (sources : List ℕ) (short : Shortened) (before : List LogEvent) (e : Ending) : Type 0 where
+pub record EndsBy (constraints n : ℕ) (sources : List ℕ) (short : Shortened) (before : List LogEvent) (e : LogEnd) : Type 0 where
   pub steps : AreStepsOf (before ++ short_row_events (constraints + 1) sources short.units.items short.left n) e.steps.items
   pub failed : e.failed ≡ negations short.left
 
 -- steps that end the log by what is left of a row's clause
-pub record EndsByRow (c : SearchState) (constraints : ℕ) (reason : ReasonOf) (e : Ending) : Type 0 where
+pub record EndsByRow (c : SearchState) (constraints : ℕ) (reason : ReasonOf) (e : LogEnd) : Type 0 where
   pub short : Shortened
   pub shortened : IsShortened c reason.clause short
   pub ends : EndsBy constraints (first_row_id c.next) reason.sources short [] e
@@ -70,7 +70,7 @@ late_unit_events hints [] = []
 late_unit_events hints (u ∷ us) = Step (ClauseWithHints u.id (integer_of u.literal ∷ []) hints) ∷ late_unit_events hints us
 
 -- Steps that end the log by a row's clause, of whose literals none is left: those that no unit clause made false get one, after this many clauses of rows.
-pub record EndsByUnits (c : SearchState) (constraints rows : ℕ) (reason : ReasonOf) (e : Ending) : Type 0 where
+pub record EndsByUnits (c : SearchState) (constraints rows : ℕ) (reason : ReasonOf) (e : LogEnd) : Type 0 where
   pub short : Shortened
   pub shortened : IsShortened c reason.clause short
   pub hints : List ℤ

@@ -42,7 +42,7 @@ pub(crate) struct Conflict {
 
 /// Steps that end the log, and the assumed literals that fail then.
 #[derive(Drop)]
-pub(crate) struct Ending {
+pub(crate) struct LogEnd {
     pub steps: Vec<LogStep>,
     pub failed: LitList,
 }
@@ -53,7 +53,7 @@ pub(crate) enum Conclusion {
     /// Each literal of this clause is false, but the one that contradicts an assumed one.
     Clause(Conflict),
     /// The clause of a row is an ending clause. These steps were not told yet.
-    Ending(Ending),
+    Ending(LogEnd),
 }
 
 /// The steps of a row whose clause is an ending clause, without what is known at level 0.
@@ -62,7 +62,7 @@ fn end_of_row(
     formula: &Formula,
     state: &SearchState,
     reason: ReasonOf,
-) -> Result<Ending, AllocError>
+) -> Result<LogEnd, AllocError>
     requires ids { HasIds state.now }
     requires few { AreFew formula.now.constraints state.now.next [] }
     requires units { length state.now.units.items ≤ length state.now.trail.entries }

@@ -5,7 +5,7 @@ ghost use Rattle.cdcl_search.specs.Logs.{HasNotFailed, told_in};
 ghost use Rattle.cdcl_search.specs.Tells.{IsId};
 ghost use Rattle.cdcl_core.specs.Concluding.{EndsLog, IsRefutable, TellsEmpty, TellsEnd};
 
-use crate::conflicts::Ending;
+use crate::conflicts::LogEnd;
 use cdcl_search::SearchState;
 use cdcl_search::chains::{hints_of, tell_chained};
 use cdcl_search::logs::SearchLog;
@@ -18,14 +18,14 @@ use step_text::Sink;
 pub(crate) fn tell_ending<L: Sink<Item = LogEvent>>(
     log: &mut SearchLog<L>,
     state: &SearchState,
-    ending: Ending,
+    ending: LogEnd,
 ) -> Result<LitList, CoreFault>
     requires ends { EndsLog log.old.formula.now state.now.conflicts (told_in L.Sink log.old) ending.failed ending.steps.items }
     requires going { HasNotFailed L.Sink log.old }
     ensures ends { TellsEnd L.Sink log.old state.now.conflicts log.new result }
     ensures failed { IfOk result (λ failed. failed ≡ ending.failed) }
 {
-    let Ending { steps, failed } = ending;
+    let LogEnd { steps, failed } = ending;
     tell_steps(log, steps)?;
     Ok(failed)
 }

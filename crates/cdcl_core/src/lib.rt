@@ -24,4 +24,4 @@ mod solving;
 
 pub use conflict_learn::CoreFault;
 pub use narrowing::solve_core;
-pub use solving::Outcome;
+pub use solving::SearchOutcome;

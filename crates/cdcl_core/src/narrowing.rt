@@ -10,9 +10,9 @@ ghost use Rattle.search_steps.specs.Recovering.{SettledWithRecovered};
 ghost use Rattle.cdcl_search.specs.Tells.{GivesUp, HasFailedBy, HaveLowIds, HasNoMark};
 ghost use Rattle.cdcl_core.specs.Narrowing.{are_up_to, narrowed, padded, padded_answer, Searched, uses_few, uses_up_to};
 ghost use Rattle.cdcl_core.specs.Results.{IsRightOutcome, IsFresh};
-ghost use Rattle.cdcl_core.specs.declared.solving.Outcome.TheVariants as outcome;
+ghost use Rattle.cdcl_core.specs.declared.solving.SearchOutcome.TheVariants as outcome;
 
-use crate::solving::{Outcome, search_formula};
+use crate::solving::{SearchOutcome, search_formula};
 use conflict_learn::CoreFault;
 use cx_base::{ConstraintRef, Formula, FormulaBuilder, Lit, LogEvent, Values};
 use parity_engine::ParityEngine;
@@ -109,13 +109,13 @@ fn padded(values: Values, vars: u32) -> Result<Values, AllocError>
 }
 
 /// An answer over more variables.
-fn padded_answer(answer: Outcome, vars: u32) -> Result<Outcome, AllocError>
+fn padded_answer(answer: SearchOutcome, vars: u32) -> Result<SearchOutcome, AllocError>
     ensures { IfOk result (λ a. a ≡ padded_answer vars answer) }
 {
     match answer {
-        Outcome::Sat(values) => Ok(Outcome::Sat(padded(values, vars)?)),
-        Outcome::Unsat { failed } => Ok(Outcome::Unsat { failed }),
-        Outcome::Unknown { conflicts } => Ok(Outcome::Unknown { conflicts }),
+        SearchOutcome::Sat(values) => Ok(SearchOutcome::Sat(padded(values, vars)?)),
+        SearchOutcome::Unsat { failed } => Ok(SearchOutcome::Unsat { failed }),
+        SearchOutcome::Unknown { conflicts } => Ok(SearchOutcome::Unknown { conflicts }),
     }
 }
 
@@ -126,7 +126,7 @@ fn search_narrowed<P: ParityEngine + Drop, L: Sink<Item = LogEvent>>(
     narrow: &Formula,
     budget: u64,
     sink: &mut L,
-) -> Result<Outcome, CoreFault>
+) -> Result<SearchOutcome, CoreFault>
     requires narrow { narrow.now ≡ narrowed formula.now }
     requires budget { (1 ≤ budget) × (budget ≤ 10 ^ 18) }
     requires few { length formula.now.constraints ≤ 4294967295 }
@@ -147,7 +147,7 @@ fn search_used<P: ParityEngine + Drop, L: Sink<Item = LogEvent>>(
     formula: &Formula,
     budget: u64,
     sink: &mut L,
-) -> Result<Outcome, CoreFault>
+) -> Result<SearchOutcome, CoreFault>
     requires budget { (1 ≤ budget) × (budget ≤ 10 ^ 18) }
     requires few { length formula.now.constraints ≤ 4294967295 }
     requires fresh { IsFresh (L.items sink.old) }
@@ -176,7 +176,7 @@ pub fn solve_core<P: ParityEngine + Drop, L: Sink<Item = LogEvent>>(
     formula: &Formula,
     budget: u64,
     sink: &mut L,
-) -> Result<Outcome, CoreFault>
+) -> Result<SearchOutcome, CoreFault>
     requires budget { (1 ≤ budget) × (budget ≤ 10 ^ 18) }
     requires few { length formula.now.constraints ≤ 4294967295 }
     requires fresh { IsFresh (L.items sink.old) }

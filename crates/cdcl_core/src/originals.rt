@@ -15,7 +15,7 @@ use step_text::Sink;
 
 /// How many clauses and how many parities were told.
 #[derive(Clone, Copy, Drop)]
-struct Counts {
+struct ToldCounts {
     clauses: u64,
     parities: u64,
 }
@@ -24,7 +24,7 @@ struct Counts {
 fn tell_original<L: Sink<Item = LogEvent>>(
     log: &mut SearchLog<L>,
     place: usize,
-    counts: &mut Counts,
+    counts: &mut ToldCounts,
 ) -> Result<(), CoreFault>
     requires few { length log.old.formula.now.constraints ≤ 4294967295 }
     requires place { place < length log.old.formula.now.constraints }
@@ -60,7 +60,7 @@ pub(crate) fn tell_originals<L: Sink<Item = LogEvent>>(
     ensures begun { OnOk result (HasBegun log.new.formula.now log.new.formula.now.constraints (told_in L.Sink log.new)) }
     ensures log { GoesOn L.Sink log.old (fault_in result) log.new }
 {
-    let mut counts = Counts {
+    let mut counts = ToldCounts {
         clauses: 0,
         parities: 0,
     };

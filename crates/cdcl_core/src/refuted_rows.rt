@@ -18,7 +18,7 @@ ghost use Rattle.cdcl_search.specs.Tells.{as_events, AreIdsFrom, AreStepsOf, IsI
 ghost use Rattle.cdcl_core.specs.Concluding.{EndsLog};
 ghost use Rattle.cdcl_core.specs.Shortening.{EndsByUnits, late_unit_events, late_units_from};
 
-use crate::conflicts::Ending;
+use crate::conflicts::LogEnd;
 use crate::learning::hints_of_resolved;
 use crate::shortening::{Shortened, UnitClause, last_steps, shorten};
 use cdcl_search::SearchState;
@@ -117,7 +117,7 @@ fn end_of_refuted(
     reason: ReasonOf,
     hints: &IntList,
     rows: usize,
-) -> Result<Ending, AllocError>
+) -> Result<LogEnd, AllocError>
     requires ids { HasIds state.now }
     requires constraints { length formula.now.constraints ≤ 4294967295 }
     requires room { (state.now.next ≤ 1000000005000000000) × (rows ≤ 268435456) }
@@ -149,7 +149,7 @@ pub(crate) fn refute_row<P: ParityEngine, L: Sink<Item = LogEvent>>(
     engine: &P,
     marks: &mut Marks,
     reason: ReasonOf,
-) -> Result<Ending, CoreFault>
+) -> Result<LogEnd, CoreFault>
     requires stands { Stands P.ParityEngine L.Sink log.old state.now engine.now [] }
     requires explains { Explains (P.state engine.now).parities state.now.trail reason }
     requires false_now { (m : Literal) → IsTrue (has_literal reason.clause m) → IsFalseIn state.now.trail.entries m }

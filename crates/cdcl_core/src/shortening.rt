@@ -7,7 +7,7 @@ ghost use Rattle.cx_base.specs.declared.steps.LogStep.TheVariants.{ParityOfClaus
 ghost use Rattle.cdcl_search.specs.Tells.{as_events, AreIdsFrom, AreStepsOf, IsId, IsStep, IsTellable};
 ghost use Rattle.cdcl_core.specs.Shortening.{EndsBy, HasNoUnit, IsShortened, IsToldUnit, unit_parity_events};
 
-use crate::conflicts::Ending;
+use crate::conflicts::LogEnd;
 use crate::failing::negated;
 use cdcl_search::SearchState;
 use cdcl_search::integers::integers;
@@ -129,7 +129,7 @@ pub(crate) fn last_steps(
     sources: IdList,
     short: &Shortened,
     before: Vec<LogStep>,
-) -> Result<Ending, AllocError>
+) -> Result<LogEnd, AllocError>
     requires texts { AllByRecursion IsTellable before.items }
     requires id { IsId id }
     requires sources { AllByRecursion IsId sources }
@@ -147,5 +147,5 @@ pub(crate) fn last_steps(
     let number = first + short.units.len() as u64;
     steps.push(sum(number, parity, sources))?;
     steps.push(clause_of_sum(id, clause, number))?;
-    Ok(Ending { steps, failed })
+    Ok(LogEnd { steps, failed })
 }

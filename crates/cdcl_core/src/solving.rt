@@ -21,7 +21,7 @@ ghost use Rattle.cdcl_core.specs.Narrowing.{Searched};
 ghost use Rattle.cdcl_core.specs.Results.{IsRightOutcome, IsFresh, IsSettledBy};
 ghost use Rattle.cdcl_core.specs.Shortening.{HasAllUnits};
 ghost use Rattle.cdcl_core.specs.Rounds.{IsSearching, LeavesRound, IsSettledIn};
-ghost use Rattle.cdcl_core.specs.declared.solving.Outcome.TheVariants as outcome;
+ghost use Rattle.cdcl_core.specs.declared.solving.SearchOutcome.TheVariants as outcome;
 
 use crate::beginning::start;
 use crate::conflicts::{Conclusion, Conflict, clause_against, conflict_clause, told_row};
@@ -48,7 +48,7 @@ use xor_reason::reason_clause;
 
 /// What a search comes to.
 #[derive(Drop)]
-pub enum Outcome {
+pub enum SearchOutcome {
     /// These values meet the formula.
     Sat(Values),
     /// No values meet the formula, and these assumed literals fail: no values meet its clauses and its parities with them. The log ends with a clause of their negations, or two of
@@ -67,7 +67,7 @@ fn learn_and_jump<P: ParityEngine, L: Sink<Item = LogEvent>>(
     marks: &mut Marks,
     budget: u64,
     conflict: Conflict,
-) -> Result<Option<Outcome>, CoreFault>
+) -> Result<Option<SearchOutcome>, CoreFault>
     requires at { IsAtConflict P.ParityEngine L.Sink log.old state.old engine.old conflict.rows.items conflict.lits }
     requires told { IsTold conflict }
     requires keeps { KeepsAssumptions log.old.formula.now.constraints assumptions.old state.old.trail }
@@ -81,7 +81,7 @@ fn learn_and_jump<P: ParityEngine, L: Sink<Item = LogEvent>>(
 {
     let learned = learn(log, state, engine, marks, conflict)?;
     if state.conflicts + 1 == budget {
-        return Ok(Some(Outcome::Unknown { conflicts: budget }));
+        return Ok(Some(SearchOutcome::Unknown { conflicts: budget }));
     }
     jump(log.formula, state, engine, assumptions, &learned)?;
     Ok(None)
@@ -130,7 +130,7 @@ fn conclude_conflict<P: ParityEngine, L: Sink<Item = LogEvent>>(
     marks: &mut Marks,
     budget: u64,
     found: Found,
-) -> Result<Option<Outcome>, CoreFault>
+) -> Result<Option<SearchOutcome>, CoreFault>
     requires searches { IsSearching P.ParityEngine L.Sink log.old state.old engine.old assumptions.old budget marks.old }
     requires reaches { SearchReaches log.old.formula.now.constraints state.old (P.state engine.old) assumptions.old (reached.Found found) }
     requires conflict { found ≢ Quiet }
@@ -143,7 +143,7 @@ fn conclude_conflict<P: ParityEngine, L: Sink<Item = LogEvent>>(
     if state.trail.level() <= assumptions.level {
         let below = state.trail.len();
         let failed = end(log, state, engine, marks, conclusion, None, below)?;
-        return Ok(Some(Outcome::Unsat { failed }));
+        return Ok(Some(SearchOutcome::Unsat { failed }));
     }
     match conclusion {
         Conclusion::Clause(conflict) => {
@@ -151,7 +151,7 @@ fn conclude_conflict<P: ParityEngine, L: Sink<Item = LogEvent>>(
         }
         Conclusion::Ending(ending) => {
             let failed = tell_ending(log, state, ending)?;
-            Ok(Some(Outcome::Unsat { failed }))
+            Ok(Some(SearchOutcome::Unsat { failed }))
         }
     }
 }
@@ -276,7 +276,7 @@ fn conclude<P: ParityEngine, L: Sink<Item = LogEvent>>(
     marks: &mut Marks,
     budget: u64,
     reached: Reached,
-) -> Result<Option<Outcome>, CoreFault>
+) -> Result<Option<SearchOutcome>, CoreFault>
     requires searches { IsSearching P.ParityEngine L.Sink log.old state.old engine.old assumptions.old budget marks.old }
     requires reaches { SearchReaches log.old.formula.now.constraints state.old (P.state engine.old) assumptions.old reached }
     requires settled { SettledWithRecovered log.old.formula.now → state.old.trail.level ≡ 0 }
@@ -286,14 +286,14 @@ fn conclude<P: ParityEngine, L: Sink<Item = LogEvent>>(
     match reached {
         Reached::Found(Found::Quiet) => {
             let values = values_of(log.alloc, log.formula, state, engine)?;
-            Ok(Some(Outcome::Sat(values)))
+            Ok(Some(SearchOutcome::Sat(values)))
         }
         Reached::Found(found) => {
             conclude_conflict(log, state, engine, assumptions, marks, budget, found)
         }
         Reached::Failed(place, found) => {
             let failed = conclude_failed(log, state, engine, assumptions, marks, place, found)?;
-            Ok(Some(Outcome::Unsat { failed }))
+            Ok(Some(SearchOutcome::Unsat { failed }))
         }
     }
 }
@@ -306,7 +306,7 @@ fn round<P: ParityEngine, L: Sink<Item = LogEvent>>(
     assumptions: &mut Assumptions,
     marks: &mut Marks,
     budget: u64,
-) -> Result<Option<Outcome>, CoreFault>
+) -> Result<Option<SearchOutcome>, CoreFault>
     requires searches { IsSearching P.ParityEngine L.Sink log.old state.old engine.old assumptions.old budget marks.old }
     requires unbroken { (P.state engine.old).mood ≢ Broken }
     requires settled { SettledWithRecovered log.old.formula.now → state.old.trail.level ≡ 0 }
@@ -323,7 +323,7 @@ fn search_in_rounds<P: ParityEngine, L: Sink<Item = LogEvent>>(
     state: &mut SearchState,
     engine: &mut P,
     budget: u64,
-) -> Result<Outcome, CoreFault>
+) -> Result<SearchOutcome, CoreFault>
     requires begins { IsAtStart log.old.formula.now (told_in L.Sink log.old) state.old (P.state engine.old) }
     requires budget { (1 ≤ budget) × (budget ≤ 10 ^ 18) }
     requires going { HasNotFailed L.Sink log.old }
@@ -348,7 +348,7 @@ fn search<P: ParityEngine, L: Sink<Item = LogEvent>>(
     state: &mut SearchState,
     engine: &mut P,
     budget: u64,
-) -> Result<Outcome, CoreFault>
+) -> Result<SearchOutcome, CoreFault>
     requires begins { IsAtStart log.old.formula.now (told_in L.Sink log.old) state.old (P.state engine.old) }
     requires budget { (1 ≤ budget) × (budget ≤ 10 ^ 18) }
     requires going { HasNotFailed L.Sink log.old }
@@ -368,7 +368,7 @@ fn fill_and_search<P: ParityEngine + Drop, L: Sink<Item = LogEvent>>(
     filled: &mut Filled,
     parities: ParityList,
     budget: u64,
-) -> Result<Outcome, CoreFault>
+) -> Result<SearchOutcome, CoreFault>
     requires budget { (1 ≤ budget) × (budget ≤ 10 ^ 18) }
     requires few { length log.old.formula.now.constraints ≤ 4294967295 }
     requires given { HasGiven log.old.formula.now parities (told_in L.Sink log.old) }
@@ -382,7 +382,7 @@ fn fill_and_search<P: ParityEngine + Drop, L: Sink<Item = LogEvent>>(
     fill(log.alloc, log.formula, filled)?;
     match start::<P, L>(log, filled, parities)? {
         Some(mut engine) => search(log, &mut filled.state, &mut engine, budget),
-        None => Ok(Outcome::Unsat {
+        None => Ok(SearchOutcome::Unsat {
             failed: LitList::from_vec(Vec::new(log.alloc)),
         }),
     }
@@ -403,7 +403,7 @@ fn both_of(alloc: Global, variable: Var) -> Result<LitList, AllocError>
 fn search_from_start<P: ParityEngine + Drop, L: Sink<Item = LogEvent>>(
     log: &mut SearchLog<L>,
     budget: u64,
-) -> Result<Outcome, CoreFault>
+) -> Result<SearchOutcome, CoreFault>
     requires budget { (1 ≤ budget) × (budget ≤ 10 ^ 18) }
     requires few { length log.old.formula.now.constraints ≤ 4294967295 }
     requires fresh { IsFresh (told_in L.Sink log.old) }
@@ -414,7 +414,7 @@ fn search_from_start<P: ParityEngine + Drop, L: Sink<Item = LogEvent>>(
 {
     tell_originals(log)?;
     if let Some(variable) = log.formula.clash() {
-        return Ok(Outcome::Unsat {
+        return Ok(SearchOutcome::Unsat {
             failed: both_of(log.alloc, variable)?,
         });
     }
@@ -429,7 +429,7 @@ pub(crate) fn search_formula<P: ParityEngine + Drop, L: Sink<Item = LogEvent>>(
     formula: &Formula,
     budget: u64,
     sink: &mut L,
-) -> Result<Outcome, CoreFault>
+) -> Result<SearchOutcome, CoreFault>
     requires budget { (1 ≤ budget) × (budget ≤ 10 ^ 18) }
     requires few { length formula.now.constraints ≤ 4294967295 }
     requires fresh { IsFresh (L.items sink.old) }

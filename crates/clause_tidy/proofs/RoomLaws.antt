@@ -15,7 +15,7 @@ use Rattle.clause_arena.proofs.PackingLaws.{live_within}
 use Rattle.tidy_rules.specs.Relations.{bears_on}
 use Rattle.clause_tidy.specs.declared.look.Look.{Look}
 use Rattle.clause_tidy.specs.declared.room.Queued.{Queued}
-use Rattle.clause_tidy.specs.declared.room.Room.{Room}
+use Rattle.clause_tidy.specs.declared.room.TidyRoom.{TidyRoom}
 use Rattle.clause_tidy.specs.Indexes.{IsIndexed, AreKnown}
 use Rattle.clause_tidy.specs.Listing.{IsListed}
 use Rattle.clause_tidy.specs.Looks.{HasWholesOf}
@@ -62,7 +62,7 @@ module _ (a : ArenaState) (queue : List Queued) (place part : ℕ) (at : HoldsAt
   first_or_later p (j, low, high, is) ne = ⊎_elim (λ (e : j ≡ place). absurd (ne (sym (is no_one) ∙ ap (λ k. (get_or queue k no_one).clause) e ∙ at no_one)))
       (λ (other : j ≢ place). (j, omega (arith, low, other), high, is)) (cases_eq j place)
 
-module _ (a : ArenaState) (old new : Room) (part : ℕ) (before : IsRoomFor a old) (none : old.found.items ≡ []) (at : HoldsAt (λ x. x.clause ≡ part) old.queue.items old.place) (place : new.place ≡ old.place + 1) (queue : new.queue ≡ old.queue) where
+module _ (a : ArenaState) (old new : TidyRoom) (part : ℕ) (before : IsRoomFor a old) (none : old.found.items ≡ []) (at : HoldsAt (λ x. x.clause ≡ part) old.queue.items old.place) (place : new.place ≡ old.place + 1) (queue : new.queue ≡ old.queue) where
   waits_then : (p q : ℕ) → IsLive a q → Bears a p q → p ≢ part → IsWaiting new.queue.items new.place p
   waits_then p q live bears ne = elim (before.due p q live bears) [
     | inl w ↦
@@ -80,7 +80,7 @@ module _ (a : ArenaState) (old new : Room) (part : ℕ) (before : IsRoomFor a ol
       (λ (ne : p ≢ part). inl (waits_then p q live bears ne)) (cases_eq p part)
 
 -- ---- what was found and is tidy
-pub due_without : (a : ArenaState) (old new : Room) (r : ℕ) → AreDue a old → (IsLive a r × Bears a old.look.part r → ⊥) → old.found.items ≡ new.found.items ++ r ∷ [] → new.look ≡ old.look → new.queue ≡ old.queue → new.place ≡ old.place → AreDue a new
+pub due_without : (a : ArenaState) (old new : TidyRoom) (r : ℕ) → AreDue a old → (IsLive a r × Bears a old.look.part r → ⊥) → old.found.items ≡ new.found.items ++ r ∷ [] → new.look ≡ old.look → new.queue ≡ old.queue → new.place ≡ old.place → AreDue a new
 due_without a old new r before tidy is look queue place p q live bears = elim (before p q live bears) [
   | inl w ↦ inl (subst (λ n. IsWaiting new.queue.items n p) (sym place) (subst (λ (v : _). IsWaiting v.items old.place p) (sym queue) w))
   | inr (same, has) ↦ inr (
@@ -96,7 +96,7 @@ due_without a old new r before tidy is look queue place p q live bears = elim (b
 ]
 
 -- ---- nothing is due
-pub none_due : (a : ArenaState) (room : Room) → AreDue a room → room.found.items ≡ [] → length room.queue.items ≤ room.place → NoneBears a
+pub none_due : (a : ArenaState) (room : TidyRoom) → AreDue a room → room.found.items ≡ [] → length room.queue.items ≤ room.place → NoneBears a
 none_due a room due none all q live p bears = elim (due p q live bears) [
   | inl (j, low, high, at) ↦ omega (arith, low, high, all)
   | inr (same, has) ↦ let k = subst (λ (xs : List ℕ). Contains xs q) none has in let low = k.1 in omega (arith, low)
@@ -131,7 +131,7 @@ bore a b h p q old live (ne, live_p, on) =
           (v.0, v.1, v.2, (λ e. v.2 (subst (λ (x : ℕ). IsLive b x) e live_p), w.0, bears_wider (literals_at a p) (literals_at b q) (literals_at a v.0) v.3 (ap (λ (x : List Literal). bears_on x (literals_at b q)) (sym w.1) ∙ on))),
     )
 
-module _ (a b : ArenaState) (h : Shrinks a b) (old new : Room) (due : AreDue a old)
+module _ (a b : ArenaState) (h : Shrinks a b) (old new : TidyRoom) (due : AreDue a old)
     (kept : (p : ℕ) → IsWaiting old.queue.items old.place p → IsWaiting new.queue.items new.place p) (look : new.look ≡ old.look) where
   on_queue : (p q r : ℕ) → IsDue old p r → (Contains old.found.items r → Contains new.found.items q) → IsDue new p q
   on_queue p q r (inl w) f = inl (kept p w)
@@ -204,7 +204,7 @@ all_wait_more a old new i r is kept waits before p low live = ⊎_elim
     (λ (e : p ≡ r). subst (λ (x : ℕ). IsWaiting new 0 x) (sym e) (waits 0 (subst (λ (x : ℕ). IsLive a x) e live) (omega arith)))
     (λ (ne : p ≢ r). kept 0 p (before p (omega (arith, low, is, ne)) live)) (cases_eq p r)
 
-pub all_due : (a : ArenaState) (room : Room) → room.place ≡ 0 → ((p : ℕ) → IsLive a p → IsWaiting room.queue.items 0 p) → AreDue a room
+pub all_due : (a : ArenaState) (room : TidyRoom) → room.place ≡ 0 → ((p : ℕ) → IsLive a p → IsWaiting room.queue.items 0 p) → AreDue a room
 all_due a room first waits p q live bears = inl (subst (λ n. IsWaiting room.queue.items n p) (sym first) (waits p bears.1))
 
 -- ---- what holds on an answer

@@ -3,7 +3,7 @@ use Rattle.std.specs.Prelude.{◌≡◌, ◌*◌, ◌<◌, ◌≤◌, ◌⊎◌,
 use Rattle.std.specs.List.{HoldsAt}
 use Rattle.clause_arena.specs.Clauses.{ArenaState, IsLive}
 use Rattle.clause_tidy.specs.declared.room.Queued.{Queued}
-use Rattle.clause_tidy.specs.declared.room.Room.{Room}
+use Rattle.clause_tidy.specs.declared.room.TidyRoom.{TidyRoom}
 use Rattle.clause_tidy.specs.Indexes.{IsIndexed}
 use Rattle.clause_tidy.specs.Marks.{AreClear}
 use Rattle.clause_tidy.specs.Pairs.{Bears}
@@ -14,21 +14,21 @@ abbrev pub IsWaiting : List Queued → ℕ → ℕ → Type 0
 IsWaiting queue place p = (j : ℕ) × (place ≤ j) × (j < length queue) × HoldsAt (λ x. x.clause ≡ p) queue j
 
 -- the first clause is still to be looked at as a part, or the look at it has found the second one
-abbrev pub IsDue : Room → ℕ → ℕ → Type 0
+abbrev pub IsDue : TidyRoom → ℕ → ℕ → Type 0
 IsDue room p q = IsWaiting room.queue.items room.place p ⊎ ((p ≡ room.look.part) × Contains room.found.items q)
 
 -- each clause that bears on another is due
-abbrev pub AreDue : ArenaState → Room → Type 0
+abbrev pub AreDue : ArenaState → TidyRoom → Type 0
 AreDue a room = (p q : ℕ) → IsLive a q → Bears a p q → IsDue room p q
 
 -- the look, the place and what was found stay
-pub record KeepsLook (old new : Room) : Type 0 where
+pub record KeepsLook (old new : TidyRoom) : Type 0 where
   pub look : new.look ≡ old.look
   pub place : new.place ≡ old.place
   pub found : new.found ≡ old.found
 
 -- All clauses of the arena are in the index, and what is not tidy is due.
-pub record IsRoomFor (a : ArenaState) (room : Room) : Type 0 where
+pub record IsRoomFor (a : ArenaState) (room : TidyRoom) : Type 0 where
   pub indexed : IsIndexed a (length a.clauses) room.index.lists room.index.signatures.items
   pub marks : length room.look.marks.items ≡ 2 * length room.index.lists
   pub clear : AreClear room.look.marks.items
@@ -36,5 +36,5 @@ pub record IsRoomFor (a : ArenaState) (room : Room) : Type 0 where
   pub due : AreDue a room
 
 -- it is one for an earlier arena, which had so many references
-abbrev pub IsRoomBefore : ArenaState → ℕ → Room → Type 0
+abbrev pub IsRoomBefore : ArenaState → ℕ → TidyRoom → Type 0
 IsRoomBefore b before room = (a : ArenaState) × (before ≡ length a.clauses) × Shrinks a b × IsRoomFor a room

@@ -4,7 +4,7 @@ ghost use Rattle.clause_arena.specs.Clauses.{IsLive, literals_at};
 ghost use Rattle.clause_tidy.specs.Indexes.{IsIndexed, AreKnown};
 ghost use Rattle.clause_tidy.specs.Signatures.{HasOther};
 
-use crate::lists::{Lists, enter};
+use crate::lists::{VariableLists, enter};
 use crate::signatures::{is_within, signature};
 use clause_arena::Arena;
 use cx_base::ClauseRef;
@@ -14,7 +14,7 @@ use std::alloc::{AllocError, Global};
 #[derive(Drop)]
 pub(crate) struct Index {
     /// For each variable the clauses that have it. One that has lost it may be there too.
-    pub lists: Lists,
+    pub lists: VariableLists,
     /// The signature of each clause.
     pub signatures: Vec<u64>,
 }
@@ -25,7 +25,7 @@ impl Index {
         ensures lists { IfOk result (λ index. length index.lists ≡ vars + 1) }
         ensures none { IfOk result (λ index. index.signatures.items ≡ []) }
     {
-        let lists = Lists::make(alloc, vars)?;
+        let lists = VariableLists::make(alloc, vars)?;
         Ok(Index {
             lists,
             signatures: Vec::new(alloc),

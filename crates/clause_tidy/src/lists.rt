@@ -9,11 +9,11 @@ use std::marker::Model;
 
 /// A list of clauses.
 #[derive(Drop)]
-struct Listed {
+struct VariableList {
     clauses: Vec<ClauseRef>,
 }
 
-impl Model for Listed {
+impl Model for VariableList {
     ghost use Rattle.std.specs.Prelude.{List, ℕ};
 
     ghost Value = { List ℕ };
@@ -21,11 +21,11 @@ impl Model for Listed {
     ghost view = { λ a. a.clauses.items };
 }
 
-impl Listed {
-    fn new(alloc: Global) -> Listed
+impl VariableList {
+    fn new(alloc: Global) -> VariableList
         ensures { result ≡ [] }
     {
-        Listed {
+        VariableList {
             clauses: Vec::new(alloc),
         }
     }
@@ -46,11 +46,11 @@ impl Listed {
 
 /// For each variable a list of clauses.
 #[derive(Drop)]
-pub(crate) struct Lists {
-    lists: Vec<Listed>,
+pub(crate) struct VariableLists {
+    lists: Vec<VariableList>,
 }
 
-impl Model for Lists {
+impl Model for VariableLists {
     ghost use Rattle.std.specs.Prelude.{List, ℕ};
 
     ghost Value = { List (List ℕ) };
@@ -58,17 +58,17 @@ impl Model for Lists {
     ghost view = { λ a. a.lists.items };
 }
 
-impl Lists {
+impl VariableLists {
     /// An empty list for each variable up to this number.
-    pub(crate) fn make(alloc: Global, vars: u32) -> Result<Lists, AllocError>
+    pub(crate) fn make(alloc: Global, vars: u32) -> Result<VariableLists, AllocError>
         ensures { IfOk result (λ lists. length lists ≡ vars + 1) }
     {
         let count = vars as usize + 1;
         let mut lists = Vec::with_capacity(alloc, count)?;
         for _ in 0..count {
-            lists.push(Listed::new(alloc))?;
+            lists.push(VariableList::new(alloc))?;
         }
-        Ok(Lists { lists })
+        Ok(VariableLists { lists })
     }
 
     /// The list of a variable.
@@ -89,7 +89,11 @@ impl Lists {
 }
 
 /// Puts a clause into the list of each of its variables.
-pub(crate) fn enter(lists: &mut Lists, lits: &[Lit], clause: ClauseRef) -> Result<(), AllocError>
+pub(crate) fn enter(
+    lists: &mut VariableLists,
+    lits: &[Lit],
+    clause: ClauseRef,
+) -> Result<(), AllocError>
     requires { AreKnown lists.old lits.now }
     ensures count { OnOk result (length lists.new ≡ length lists.old) }
     ensures kept { OnOk result (KeepsEntries lists.old lists.new) }

@@ -9,7 +9,7 @@ ghost use Rattle.clause_tidy.specs.Marks.{AreClear, HaveRoom};
 ghost use Rattle.clause_tidy.specs.Pairs.{Bears};
 
 use crate::index::Index;
-use crate::lists::Lists;
+use crate::lists::VariableLists;
 use crate::marks::{clear, mark, may_bear};
 use crate::signatures::signature;
 use clause_arena::Arena;
@@ -149,7 +149,7 @@ impl Look {
 }
 
 /// The literal of a clause whose variable's list is the shortest.
-fn rarest(lists: &Lists, lits: &[Lit]) -> Lit
+fn rarest(lists: &VariableLists, lits: &[Lit]) -> Lit
     requires some { 1 ≤ length lits.now }
     requires known { AreKnown lists.now lits.now }
     ensures { Contains lits.now result }

@@ -23,7 +23,7 @@ pub(crate) struct Queued {
 
 /// What a tidying keeps beside the arena.
 #[derive(Drop)]
-pub(crate) struct Room {
+pub(crate) struct TidyRoom {
     pub index: Index,
     pub look: Look,
     /// The clauses that are looked at as parts, from this place on.
@@ -54,9 +54,9 @@ fn sort(queue: &mut Vec<Queued>)
     queue.sort_unstable_by_key(|queued| queued.len);
 }
 
-impl Room {
+impl TidyRoom {
     /// Room for no clause, and for variables up to this number.
-    fn empty(alloc: Global, vars: u32) -> Result<Room, AllocError>
+    fn empty(alloc: Global, vars: u32) -> Result<TidyRoom, AllocError>
         requires { vars < 2 ^ 31 }
         ensures lists { IfOk result (λ room. length room.index.lists ≡ vars + 1) }
         ensures signatures { IfOk result (λ room. room.index.signatures.items ≡ []) }
@@ -67,7 +67,7 @@ impl Room {
     {
         let index = Index::make(alloc, vars)?;
         let look = Look::make(alloc, vars)?;
-        Ok(Room {
+        Ok(TidyRoom {
             index,
             look,
             queue: Vec::new(alloc),
@@ -109,12 +109,12 @@ impl Room {
     }
 
     /// Room for the clauses of an arena, whose variables go up to this number. Each waits to be looked at, the shortest ones first.
-    pub(crate) fn make(alloc: Global, vars: u32, arena: &Arena) -> Result<Room, AllocError>
+    pub(crate) fn make(alloc: Global, vars: u32, arena: &Arena) -> Result<TidyRoom, AllocError>
         requires few { vars < 2 ^ 31 }
         requires variables { (r : ℕ) → IsLive arena.now r → AreWithin vars (literals_at arena.now r) }
         ensures { IfOk result (IsRoomFor arena.now) }
     {
-        let mut room = Room::empty(alloc, vars)?;
+        let mut room = TidyRoom::empty(alloc, vars)?;
         room.fill(arena)?;
         sort(&mut room.queue);
         Ok(room)

@@ -6,7 +6,7 @@ ghost use Rattle.clause_tidy.specs.Rooms.{IsRoomFor};
 ghost use Rattle.clause_tidy.specs.Weights.{weight};
 
 use crate::pairs::Pair;
-use crate::room::Room;
+use crate::room::TidyRoom;
 use crate::tidier::Tidier;
 use clause_arena::Arena;
 use cx_base::{LitList, LogEvent};
@@ -18,7 +18,7 @@ impl Tidier<'_> {
         &self,
         arena: &mut Arena,
         log: &mut L,
-        room: &mut Room,
+        room: &mut TidyRoom,
         pair: &Pair,
     ) -> Result<Option<LitList>, SinkFault>
         requires may { MayTidy L.Sink self.now.formula.now self.now.spare arena.old log.old }
@@ -45,7 +45,7 @@ impl Tidier<'_> {
         &self,
         arena: &mut Arena,
         log: &mut L,
-        room: &mut Room,
+        room: &mut TidyRoom,
     ) -> Result<Option<LitList>, SinkFault>
         requires may { MayTidy L.Sink self.now.formula.now self.now.spare arena.old log.old }
         requires none { HasNoTautology arena.old }
@@ -79,7 +79,7 @@ impl Tidier<'_> {
         ensures bears { IfOk result (λ ended. IsNone ended → NoneBears arena.new) }
         ensures tidies { TidiesOn L.Sink self.now.formula.now self.now.spare arena.old log.old result (MendsTo self.now.formula.now self.now.spare arena.old arena.new) log.new }
     {
-        match Room::make(self.alloc, self.formula.vars(), arena) {
+        match TidyRoom::make(self.alloc, self.formula.vars(), arena) {
             Ok(mut room) => self.settle_in(arena, log, &mut room),
             Err(_) => Err(SinkFault::Memory),
         }

@@ -15,35 +15,35 @@ use Rattle.cx_semantics.specs.Chain.{same_literals}
 use Rattle.proof_rules.specs.Contents.{IsClauseContent, IsParityContent}
 use Rattle.proof_rules.proofs.ContentLaws.{clause_content_once, parity_content_once, same_by_content, content_of_same, form_by_parity_content, content_of_same_form}
 use Rattle.fratx_elab.specs.Elaborates.{IsLeast, IsClauseNumber, IsParityNumber}
-use Rattle.fratx_elab.specs.declared.content_index.Entry.{Entry}
+use Rattle.fratx_elab.specs.declared.content_index.ContentEntry.{ContentEntry}
 use Rattle.fratx_elab.specs.declared.originals.Originals.{Originals}
 use Rattle.fratx_elab.specs.Contents.{IsLeastOf, IsNowhere, AreNumbered, Say, SayFirst, StandsFor}
 use Rattle.fratx_elab.proofs.Numbers.{none_pass, none_any}
 
 -- ---- one more entry
 
-pub numbered_more : (entries : List Entry) (e : Entry) → e.number ≡ length entries + 1 → AreNumbered entries → AreNumbered (entries ++ e ∷ [])
+pub numbered_more : (entries : List ContentEntry) (e : ContentEntry) → e.number ≡ length entries + 1 → AreNumbered entries → AreNumbered (entries ++ e ∷ [])
 numbered_more entries e own before i d lt = elim (cases_lt i (length entries)) [
-  | inl earlier ↦ ap (λ (x : Entry). x.number) (get_or_append_left entries (e ∷ []) d i earlier) ∙ before i d earlier
+  | inl earlier ↦ ap (λ (x : ContentEntry). x.number) (get_or_append_left entries (e ∷ []) d i earlier) ∙ before i d earlier
   | inr later ↦
       let here : length entries ≡ i = omega (arith, length-append entries (e ∷ [])) in
-      ap (λ (x : Entry). x.number) (get_or_push entries e d i here) ∙ own ∙ ap (λ k. k + 1) here
+      ap (λ (x : ContentEntry). x.number) (get_or_push entries e d i here) ∙ own ∙ ap (λ k. k + 1) here
 ]
 
-pub say_more : (Has : List Literal → List ℕ → Type 0) (lists : List (List Literal)) (entries : List Entry) (e : Entry) (lits : List Literal) → slice_get lists (length entries) ≡ Some lits → Has lits e.content.items
+pub say_more : (Has : List Literal → List ℕ → Type 0) (lists : List (List Literal)) (entries : List ContentEntry) (e : ContentEntry) (lits : List Literal) → slice_get lists (length entries) ≡ Some lits → Has lits e.content.items
     → SayFirst Has lists entries → SayFirst Has lists (entries ++ e ∷ [])
 say_more Has lists entries e lits at says before i l d lt h = elim (cases_lt i (length entries)) [
-  | inl earlier ↦ subst (λ (x : Entry). Has l x.content.items) (sym (get_or_append_left entries (e ∷ []) d i earlier)) (before i l d earlier h)
+  | inl earlier ↦ subst (λ (x : ContentEntry). Has l x.content.items) (sym (get_or_append_left entries (e ∷ []) d i earlier)) (before i l d earlier h)
   | inr later ↦
       let here : length entries ≡ i = omega (arith, length-append entries (e ∷ [])) in
       let one : lits ≡ l = let there : Some lits ≡ Some l = sym at ∙ ap (slice_get lists) here ∙ h in cc in
-      subst (λ (x : Entry). Has l x.content.items) (sym (get_or_push entries e d i here)) (subst (λ m. Has m e.content.items) one says)
+      subst (λ (x : ContentEntry). Has l x.content.items) (sym (get_or_push entries e d i here)) (subst (λ m. Has m e.content.items) one says)
 ]
 
 -- ---- from entries to lists
 
 -- the entry at a place
-item : (entries : List Entry) (i : ℕ) → i < length entries → Entry
+item : (entries : List ContentEntry) (i : ℕ) → i < length entries → ContentEntry
 item [] i lt = absurd (omega arith)
 item (e ∷ entries) zero lt = e
 item (e ∷ entries) (suc i) lt = item entries i (omega arith)
@@ -61,9 +61,9 @@ parted lists i lits at =
     ∙ joined (take i lists) (lits ∷ []) (drop (i + 1) lists)
 
 module _ (Has : List Literal → List ℕ → Type 0) (once : (lits : List Literal) (q k : List ℕ) → Has lits q → Has lits k → q ≡ k)
-    (lists : List (List Literal)) (entries : List Entry) (numbered : AreNumbered entries) (say : Say Has lists entries) (q : List ℕ) where
+    (lists : List (List Literal)) (entries : List ContentEntry) (numbered : AreNumbered entries) (say : Say Has lists entries) (q : List ℕ) where
   -- where a list says it, the entry of its number does
-  entry_says : (i : ℕ) (lits : List Literal) (d : Entry) → i < length lists → slice_get lists i ≡ Some lits → Has lits q → (get_or entries i d).content.items ≡ q
+  entry_says : (i : ℕ) (lits : List Literal) (d : ContentEntry) → i < length lists → slice_get lists i ≡ Some lits → Has lits q → (get_or entries i d).content.items ≡ q
   entry_says i lits d lt at has = once lits (get_or entries i d).content.items q (say.each i lits d (let e = say.count in omega (arith, e)) at) has
 
   pub least_list : (n : ℕ) → IsLeastOf entries q n → IsLeast (λ lits. Has lits q) lists n
@@ -72,14 +72,14 @@ module _ (Has : List Literal → List ℕ → Type 0) (once : (lits : List Liter
       let within : i < length lists = (let lt = h.among.1 in let e = say.count in omega (arith, lt, e)) in
       let lits = get_or lists i [] in
       let at = slice_get-get_or lists i [] within in
-      let number : n ≡ i + 1 = sym h.numbered ∙ sym (ap (λ (x : Entry). x.number) h.among.2) ∙ numbered i h.it h.among.1 in
+      let number : n ≡ i + 1 = sym h.numbered ∙ sym (ap (λ (x : ContentEntry). x.number) h.among.2) ∙ numbered i h.it h.among.1 in
       let long = length-take-le i lists (omega arith) in
       record {
         before = take i lists;
         it = lits;
         later = drop (i + 1) lists;
         split = parted lists i lits at;
-        has_it = subst (Has lits) (ap (λ (x : Entry). x.content.items) h.among.2 ∙ h.says) (say.each i lits h.it h.among.1 at);
+        has_it = subst (Has lits) (ap (λ (x : ContentEntry). x.content.items) h.among.2 ∙ h.says) (say.each i lits h.it h.among.1 at);
         none_before = recursion_from_All (λ l. ¬ Has l q) (take i lists) (λ k d lt has.
             let low : k < i = omega (arith, lt, long) in
             let read : get_or (take i lists) k d ≡ get_or lists k d = get_or-take i lists k d low in

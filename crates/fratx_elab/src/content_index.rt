@@ -13,7 +13,7 @@ pub(crate) type Content = SmallVec<u32, 6>;
 
 /// A constraint of the formula: what it says, and its number among those of its kind.
 #[derive(PartialEq, Eq, PartialOrd, Ord, Drop)]
-pub(crate) struct Entry {
+pub(crate) struct ContentEntry {
     /// The first two numbers of the content, zeros where it has fewer, which mostly decide a comparison.
     pub first: u32,
     pub second: u32,
@@ -21,9 +21,9 @@ pub(crate) struct Entry {
     pub number: ProofId,
 }
 
-impl Entry {
+impl ContentEntry {
     /// The entry of a constraint.
-    pub(crate) fn new(content: Content, number: ProofId) -> Entry
+    pub(crate) fn new(content: Content, number: ProofId) -> ContentEntry
         ensures first { result.first ≡ get_or content.items 0 0 }
         ensures second { result.second ≡ get_or content.items 1 0 }
         ensures content { result.content ≡ content }
@@ -32,7 +32,7 @@ impl Entry {
         let numbers = content.as_slice();
         let first = *numbers.first().unwrap_or(&0);
         let second = *numbers.get(1).unwrap_or(&0);
-        Entry {
+        ContentEntry {
             first,
             second,
             content,
@@ -45,19 +45,19 @@ impl Entry {
 #[derive(Drop)]
 pub(crate) struct ContentIndex {
     /// In the order of what they say, and those that say the same in the order of their numbers.
-    entries: Vec<Entry>,
+    entries: Vec<ContentEntry>,
     /// For each in the order of the formula, the least number of one that says the same.
     firsts: Vec<ProofId>,
 }
 
 /// The least number of an entry that says what the one at this place says, where that of those before is known.
-fn first_at(entries: &[Entry], firsts: &[ProofId], place: usize) -> ProofId
+fn first_at(entries: &[ContentEntry], firsts: &[ProofId], place: usize) -> ProofId
     requires here { place < length entries.now }
     requires fronts { All HasFront entries.now }
     requires sorted { IsSorted by_content entries.now }
     requires within { NumbersWithin (length firsts.now) entries.now }
     requires known { LeastBefore place entries.now firsts.now }
-    ensures { (d : Entry) → IsLeastOf entries.now (get_or entries.now place d).content.items result }
+    ensures { (d : ContentEntry) → IsLeastOf entries.now (get_or entries.now place d).content.items result }
 {
     if place > 0 && entries[place - 1].content == entries[place].content {
         firsts[entries[place - 1].number.index()]
@@ -67,7 +67,7 @@ fn first_at(entries: &[Entry], firsts: &[ProofId], place: usize) -> ProofId
 }
 
 /// For each number, the least number of an entry that says what the one of this number says.
-fn firsts_of(alloc: Global, entries: &[Entry]) -> Result<Vec<ProofId>, AllocError>
+fn firsts_of(alloc: Global, entries: &[ContentEntry]) -> Result<Vec<ProofId>, AllocError>
     requires fronts { All HasFront entries.now }
     requires sorted { IsSorted by_content entries.now }
     requires within { NumbersWithin (length entries.now) entries.now }
@@ -85,7 +85,7 @@ fn firsts_of(alloc: Global, entries: &[Entry]) -> Result<Vec<ProofId>, AllocErro
 
 impl ContentIndex {
     /// The index of these entries, which are in the order of their numbers.
-    pub fn of(alloc: Global, mut entries: Vec<Entry>) -> Result<ContentIndex, AllocError>
+    pub fn of(alloc: Global, mut entries: Vec<ContentEntry>) -> Result<ContentIndex, AllocError>
         requires fronts { All HasFront entries.items }
         requires numbered { AreNumbered entries.items }
         ensures { IfOk result (Orders entries.items) }
@@ -105,10 +105,10 @@ impl ContentIndex {
 
     /// The least number of a constraint that says this; none where no one does.
     pub fn find(&self, content: Content) -> Option<ProofId>
-        ensures { (entries : List Entry) → All HasFront entries → AreNumbered entries → Orders entries self.now → MatchOption result (IsNowhere entries content.items) (IsLeastOf entries content.items) }
+        ensures { (entries : List ContentEntry) → All HasFront entries → AreNumbered entries → Orders entries self.now → MatchOption result (IsNowhere entries content.items) (IsLeastOf entries content.items) }
     {
         // Nothing before it says this.
-        let least = Entry::new(content, ProofId::new(1));
+        let least = ContentEntry::new(content, ProofId::new(1));
         let place = match self.entries.binary_search(&least) {
             Ok(place) => place,
             Err(place) => place,

@@ -8,7 +8,7 @@ ghost use Rattle.fratx_elab.specs.Contents.{HasFront, AreNumbered, Say, StandsFo
 ghost use Rattle.proof_rules.specs.Contents.{IsClauseContent, IsParityContent};
 ghost use Rattle.fratx_elab.specs.declared.naming.TheConstants.{MAX_ID};
 
-use crate::content_index::{Content, ContentIndex, Entry};
+use crate::content_index::{Content, ContentEntry, ContentIndex};
 use crate::naming::{MAX_ID, ProofId};
 use cx_base::{Formula, Lit};
 use proof_rules::{fill_clause_content, fill_parity_content};
@@ -43,7 +43,7 @@ pub struct Originals {
 }
 
 /// The formula's clauses in order, each by what it says.
-fn clause_entries(alloc: Global, formula: &Formula) -> Result<Vec<Entry>, AllocError>
+fn clause_entries(alloc: Global, formula: &Formula) -> Result<Vec<ContentEntry>, AllocError>
     requires { length formula.now.constraints < MAX_ID }
     ensures fronts { IfOk result (λ entries. All HasFront entries.items) }
     ensures numbered { IfOk result (λ entries. AreNumbered entries.items) }
@@ -55,13 +55,13 @@ fn clause_entries(alloc: Global, formula: &Formula) -> Result<Vec<Entry>, AllocE
         fill_clause_content(&mut codes, formula.clause(index + 1))?;
         let content = Content::from_slice(alloc, &codes)?;
         let number = ProofId::new(index as u64 + 1);
-        entries.push(Entry::new(content, number))?;
+        entries.push(ContentEntry::new(content, number))?;
     }
     Ok(entries)
 }
 
 /// The formula's parities in order, each by what it says.
-fn parity_entries(alloc: Global, formula: &Formula) -> Result<Vec<Entry>, AllocError>
+fn parity_entries(alloc: Global, formula: &Formula) -> Result<Vec<ContentEntry>, AllocError>
     requires { length formula.now.constraints < MAX_ID }
     ensures fronts { IfOk result (λ entries. All HasFront entries.items) }
     ensures numbered { IfOk result (λ entries. AreNumbered entries.items) }
@@ -73,7 +73,7 @@ fn parity_entries(alloc: Global, formula: &Formula) -> Result<Vec<Entry>, AllocE
         fill_parity_content(&mut numbers, formula.parity(index + 1))?;
         let content = Content::from_slice(alloc, &numbers)?;
         let number = ProofId::new(index as u64 + 1);
-        entries.push(Entry::new(content, number))?;
+        entries.push(ContentEntry::new(content, number))?;
     }
     Ok(entries)
 }

@@ -12,13 +12,13 @@ use std::marker::Model;
 
 /// What each row was named for, if it was.
 #[derive(Drop)]
-pub struct Names {
+pub struct RowNames {
     named: Vec<Option<Naming>>,
     order: Vec<usize>,
     count: usize,
 }
 
-impl Model for Names {
+impl Model for RowNames {
     ghost use Rattle.std.specs.Prelude.{List, Option, map};
     ghost use Rattle.parity_engine.specs.declared.state.Naming.{Naming};
     ghost use Rattle.gauss_incremental.specs.Namings.{as_held, namings_code};
@@ -33,14 +33,14 @@ impl Model for Names {
     ghost invariant = { λ s. IsTrail s.order.items s.count (map as_held s.named.items) };
 }
 
-impl Names {
+impl RowNames {
     /// No row is named.
-    pub(crate) fn make(alloc: Global, rows: usize) -> Result<Names, AllocError>
+    pub(crate) fn make(alloc: Global, rows: usize) -> Result<RowNames, AllocError>
         ensures { IfOk result (λ names. names ≡ replicate rows None) }
     {
         let named = nothing_named(alloc, rows)?;
         let order = no_order(alloc, rows)?;
-        Ok(Names {
+        Ok(RowNames {
             named,
             order,
             count: 0,

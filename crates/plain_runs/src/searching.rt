@@ -1,7 +1,7 @@
 //! Searches with their logs.
 ghost use Rattle.std.specs.Prelude.{◌≤◌, ◌^◌};
 
-use cdcl_core::{Outcome, solve_core};
+use cdcl_core::{SearchOutcome, solve_core};
 use cx_base::Formula;
 use gauss_incremental::Incremental;
 use log_text::ListLog;
@@ -29,9 +29,9 @@ pub(crate) fn searched(
     }
     let mut log = ListLog::make(alloc);
     let answer = match solve_core::<Incremental, ListLog>(alloc, formula, budget, &mut log) {
-        Ok(Outcome::Sat(_)) => SearchAnswer::Solved,
-        Ok(Outcome::Unsat { failed: _ }) => SearchAnswer::Refuted,
-        Ok(Outcome::Unknown { conflicts: _ }) => SearchAnswer::Unknown,
+        Ok(SearchOutcome::Sat(_)) => SearchAnswer::Solved,
+        Ok(SearchOutcome::Unsat { failed: _ }) => SearchAnswer::Refuted,
+        Ok(SearchOutcome::Unknown { conflicts: _ }) => SearchAnswer::Unknown,
         Err(_) => return Ok(None),
     };
     Ok(Some((answer, log)))

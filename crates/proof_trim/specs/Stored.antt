@@ -5,7 +5,7 @@ use Rattle.cx_base.specs.declared.steps.ProofStep.TheVariants as step
 use Rattle.proof_trim.specs.Integers.{part, signed, unsigned}
 use Rattle.proof_trim.specs.declared.opened.StepKind.{StepKind}
 use Rattle.proof_trim.specs.declared.opened.StepKind.TheVariants as kind
-use Rattle.proof_trim.specs.declared.opened.Head.{Head}
+use Rattle.proof_trim.specs.declared.opened.StepHead.{StepHead}
 
 abbrev pub code_of : StepKind → ℕ
 code_of kind.Clause = 0
@@ -104,5 +104,5 @@ abbrev pub FitsIn : ℕ → ProofStep → Type 0
 FitsIn room s = length (packed s) ≤ room
 
 -- the step of a head and its lists
-abbrev pub step_from : Head → List ℤ → List ℕ → ProofStep
+abbrev pub step_from : StepHead → List ℤ → List ℕ → ProofStep
 step_from h zs ids = step_by h.kind h.id (take h.middle zs) (part zs h.middle h.end) (take h.end ids)

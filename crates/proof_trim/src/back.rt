@@ -13,7 +13,7 @@ use std::alloc::{AllocError, Global};
 
 /// What going back through a proof finds.
 #[derive(Drop)]
-pub(crate) struct Found {
+pub(crate) struct FoundNeeded {
     /// Whether each step is needed.
     pub(crate) marks: Vec<bool>,
     /// What needed steps name of the formula.
@@ -63,7 +63,7 @@ pub(crate) fn go_back(
     alloc: Global,
     formula: &Formula,
     proof: &StepStore,
-) -> Result<Found, AllocError>
+) -> Result<FoundNeeded, AllocError>
     ensures marks { IfOk result (λ found. found.marks.items ≡ marks_of proof.now) }
     ensures wanted { IfOk result (λ found. Has found.wanted (wants proof.now)) }
 {
@@ -75,5 +75,5 @@ pub(crate) fn go_back(
         left -= 1;
         marks[left] = back_over(&mut wanted, proof, left, left + 1 == proof.len())?;
     }
-    Ok(Found { marks, wanted })
+    Ok(FoundNeeded { marks, wanted })
 }

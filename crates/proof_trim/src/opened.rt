@@ -68,14 +68,14 @@ fn deletes(kind: StepKind) -> bool
 
 /// A step but for its lists: where the first ends and the second begins, and where that ends.
 #[derive(Drop)]
-pub(crate) struct Head {
+pub(crate) struct StepHead {
     pub(crate) kind: StepKind,
     pub(crate) id: u64,
     pub(crate) middle: usize,
     pub(crate) end: usize,
 }
 
-impl Head {
+impl StepHead {
     /// How many integers the second list has.
     pub(crate) fn second_len(&self) -> usize
         requires { self.now.middle ≤ self.now.end }
@@ -88,7 +88,7 @@ impl Head {
 /// A step that is taken out of the packed ones, with room for others in its place.
 #[derive(Drop)]
 pub(crate) struct OpenedStep {
-    head: Head,
+    head: StepHead,
     integers: Vec<i64>,
     ids: Vec<u64>,
 }
@@ -105,7 +105,7 @@ impl Model for OpenedStep {
 }
 
 /// The head of the step whose integers lie from start up to end.
-pub(crate) fn head_at(packed: &Integers, start: usize, end: usize) -> Head
+pub(crate) fn head_at(packed: &Integers, start: usize, end: usize) -> StepHead
     requires low { start + 3 ≤ end }
     requires high { end ≤ length packed.now }
     ensures kind { result.kind ≡ kind_of (unsigned (get_or packed.now start (pos 0))) }
@@ -113,7 +113,7 @@ pub(crate) fn head_at(packed: &Integers, start: usize, end: usize) -> Head
     ensures middle { result.middle ≡ unsigned (get_or packed.now (start + 2) (pos 0)) }
     ensures end { result.end ≡ end - (start + 3) }
 {
-    Head {
+    StepHead {
         kind: kind_of(packed.id_at(start)),
         id: packed.id_at(start + 1),
         middle: packed.id_at(start + 2) as usize,
@@ -150,7 +150,7 @@ impl OpenedStep {
         integers.resize(room, 0)?;
         let mut ids = Vec::new(alloc);
         ids.resize(room, 0)?;
-        let head = Head {
+        let head = StepHead {
             kind: StepKind::DeleteParities,
             id: 0,
             middle: 0,

@@ -6,7 +6,7 @@ ghost use Rattle.proof_trim.specs.Laws.{IsRefutation};
 ghost use Rattle.proof_trim.specs.Outcomes.{AnswersAsJudged, IsTrimOf, ListsNames, Trims, WhereDone};
 ghost use Rattle.proof_trim.specs.Trimmed.{core_of};
 
-use crate::back::{Found, go_back};
+use crate::back::{FoundNeeded, go_back};
 use crate::keep::keep;
 use crate::kept::KeptSteps;
 use crate::names::NameSet;

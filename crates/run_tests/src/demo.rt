@@ -4,7 +4,7 @@ ghost use Rattle.std.specs.Prelude.{◌≤◌, ◌^◌};
 use crate::desk::{AMPLE, Bounds, Ended, Task, run};
 use crate::expecting::{put_unless, run_task};
 use crate::pigeons::WIDE;
-use cdcl_core::{Outcome, solve_core};
+use cdcl_core::{SearchOutcome, solve_core};
 use cx_base::Formula;
 use gauss_incremental::Incremental;
 use inst_gen::{InstanceKind, planted};
@@ -149,7 +149,7 @@ fn finds_values(alloc: Global, formula: &Formula, conflicts: u64) -> bool
     }
     let mut log = NoLog;
     match solve_core::<Incremental, NoLog>(alloc, formula, conflicts, &mut log) {
-        Ok(Outcome::Sat(values)) => formula.meets(values.as_slice()),
+        Ok(SearchOutcome::Sat(values)) => formula.meets(values.as_slice()),
         _ => false,
     }
 }

@@ -2,7 +2,7 @@
 ghost use Rattle.std.specs.Prelude.{◌≤◌};
 ghost use Rattle.cx_base.specs.declared.literal.TheConstants.{MAX_VARIABLE};
 
-use cdcl_core::{Outcome, solve_core};
+use cdcl_core::{SearchOutcome, solve_core};
 use cx_base::{Formula, FormulaBuilder, Lit, Var};
 use gauss_incremental::Incremental;
 use log_text::NoLog;
@@ -41,7 +41,7 @@ fn found(alloc: Global, formula: &Formula) -> Result<String, AllocError> {
     }
     let mut log = NoLog;
     match solve_core::<Incremental, NoLog>(alloc, formula, 1, &mut log) {
-        Ok(Outcome::Sat(values)) => written(alloc, values.as_slice()),
+        Ok(SearchOutcome::Sat(values)) => written(alloc, values.as_slice()),
         _ => Ok(String::new(alloc)),
     }
 }

@@ -26,8 +26,8 @@ use Rattle.conflict_learn.specs.declared.fault.CoreFault.TheVariants as fault
 use Rattle.conflict_learn.specs.Faults.{CountsAs, fault_in}
 use Rattle.cdcl_search.specs.Tells.{IsLeft, HaveLowIds, HasNoMark as HasNoMarkTold, MayStandBehind, GivesUp}
 use Rattle.cdcl_core.specs.Results.{IsFresh, IsRightOutcome, Refutes}
-use Rattle.cdcl_core.specs.declared.solving.Outcome.{Outcome as Answer}
-use Rattle.cdcl_core.specs.declared.solving.Outcome.TheVariants as answer
+use Rattle.cdcl_core.specs.declared.solving.SearchOutcome.{SearchOutcome as Answer}
+use Rattle.cdcl_core.specs.declared.solving.SearchOutcome.TheVariants as answer
 use Rattle.solve_cli.specs.declared.ending.Ending.{Ending}
 use Rattle.solve_cli.specs.declared.ending.Outcome.{Outcome}
 use Rattle.solve_cli.specs.Solving.{SearchesOn, AnswersAs}

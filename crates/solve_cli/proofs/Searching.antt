@@ -12,8 +12,8 @@ use Rattle.search_steps.specs.Recovering.{SettledWithRecovered}
 use Rattle.conflict_learn.specs.declared.fault.CoreFault.{CoreFault}
 use Rattle.conflict_learn.specs.declared.fault.CoreFault.TheVariants as fault
 use Rattle.cdcl_core.specs.Results.{Satisfies, Refutes, UsesUp, IsRightOutcome}
-use Rattle.cdcl_core.specs.declared.solving.Outcome.{Outcome as Answer}
-use Rattle.cdcl_core.specs.declared.solving.Outcome.TheVariants as answer
+use Rattle.cdcl_core.specs.declared.solving.SearchOutcome.{SearchOutcome as Answer}
+use Rattle.cdcl_core.specs.declared.solving.SearchOutcome.TheVariants as answer
 use Rattle.cx_desk.specs.declared.desk.Port.TheVariants as port
 use Rattle.cx_desk.specs.Outside.{Bytes, Files}
 use Rattle.cx_words.specs.declared.plans.Plan.TheVariants as plan

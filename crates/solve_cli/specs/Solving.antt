@@ -6,8 +6,8 @@ use Rattle.cx_texts.specs.Printed.{printed_log}
 use Rattle.search_steps.specs.Recovering.{SettledWithRecovered}
 use Rattle.conflict_learn.specs.declared.fault.CoreFault.{CoreFault}
 use Rattle.conflict_learn.specs.declared.fault.CoreFault.TheVariants as fault
-use Rattle.cdcl_core.specs.declared.solving.Outcome.{Outcome as Answer}
-use Rattle.cdcl_core.specs.declared.solving.Outcome.TheVariants as answer
+use Rattle.cdcl_core.specs.declared.solving.SearchOutcome.{SearchOutcome as Answer}
+use Rattle.cdcl_core.specs.declared.solving.SearchOutcome.TheVariants as answer
 use Rattle.cx_desk.specs.declared.desk.Port.TheVariants as port
 use Rattle.cx_desk.specs.Outside.{Bytes}
 use Rattle.cx_words.specs.declared.plans.Plan.{Plan}

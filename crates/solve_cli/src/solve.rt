@@ -9,7 +9,7 @@ ghost use Rattle.solve_cli.specs.Steps.{Acts, HasNoProof};
 use crate::failed::in_order;
 use crate::load::{create_proof, read_formula_of};
 use crate::{Ending, Outcome};
-use cdcl_core::{CoreFault, Outcome as Answer, solve_core};
+use cdcl_core::{CoreFault, SearchOutcome as Answer, solve_core};
 use cx_base::Formula;
 use cx_desk::Desk;
 use cx_words::Name;

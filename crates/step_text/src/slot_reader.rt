@@ -22,7 +22,7 @@ use std::marker::{Model, PhantomData};
 
 /// What the bytes of a text that were read so far say of the next step.
 #[derive(Drop)]
-enum Found<S> {
+enum StepFinding<S> {
     /// The step, and where the text goes on: the place of the token after it, or one after which no token was read.
     Step(S, usize, LineState),
     /// The text ends between two steps.
@@ -66,7 +66,7 @@ fn find_step<G: StepGrammar>(
     bytes: &[u8],
     place: usize,
     ended: bool,
-) -> Found<G::Step>
+) -> StepFinding<G::Step>
 where
     G::Step: Drop,
     requires { place + length bytes.now < 2 ^ 63 }
@@ -75,17 +75,21 @@ where
     let len = whole_len(bytes, ended);
     let mut tokens = TokensAhead::within(&bytes[..len], place);
     if tokens.is_empty() {
-        return if ended { Found::End } else { Found::Unknown };
+        return if ended {
+            StepFinding::End
+        } else {
+            StepFinding::Unknown
+        };
     }
     match G::read_step(spare, &mut tokens, place + len) {
         Ok(step) => {
             if !tokens.is_empty() {
-                return Found::Step(step, tokens.place(place + len), LineState::Kept);
+                return StepFinding::Step(step, tokens.place(place + len), LineState::Kept);
             }
             if !ended && !G::is_closed(&step) {
-                return Found::Unknown;
+                return StepFinding::Unknown;
             }
-            Found::Step(
+            StepFinding::Step(
                 step,
                 place + len,
                 line_behind(LineState::Kept, &bytes[..len]),
@@ -93,9 +97,9 @@ where
         }
         Err(refusal) => {
             if !counts(refusal, ended) {
-                return Found::Unknown;
+                return StepFinding::Unknown;
             }
-            Found::Refused(refusal)
+            StepFinding::Refused(refusal)
         }
     }
 }
@@ -198,14 +202,14 @@ where
     {
         let place = self.bytes.place();
         match find_step::<G>(spare, self.bytes.bytes(), place, self.bytes.has_ended()) {
-            Found::Step(step, next, line) => {
+            StepFinding::Step(step, next, line) => {
                 self.bytes.pass(next - place);
                 self.line = line;
                 Some(Ok(Some(step)))
             }
-            Found::End => Some(Ok(None)),
-            Found::Refused(refusal) => Some(Err(refusal)),
-            Found::Unknown => None,
+            StepFinding::End => Some(Ok(None)),
+            StepFinding::Refused(refusal) => Some(Err(refusal)),
+            StepFinding::Unknown => None,
         }
     }
 

@@ -3,7 +3,7 @@ use Rattle.std.proofs.lemmas.Result.{err_from_is_err_and}
 use Rattle.cx_base.specs.Problem.{Problem}
 use Rattle.search_policy.specs.Assuming.{KeepsAssumptions}
 use Rattle.cdcl_search.specs.GoingOn.{log_then}
-use Rattle.cdcl_core.specs.declared.solving.Outcome.TheVariants.{Unsat}
+use Rattle.cdcl_core.specs.declared.solving.SearchOutcome.TheVariants.{Unsat}
 use Rattle.cdcl_core.proofs.Answering.{refutes_within}
 use Rattle.cdcl_core.proofs.FailLaws.{conflict_ends_at}
 use Rattle.cdcl_core.proofs.solving.conclude_conflict.Goals as goal

@@ -4,7 +4,7 @@ use Rattle.std.proofs.lemmas.List.Elements.{All-push}
 use Rattle.smallvec.specs.SmallVec.{SmallVec}
 use Rattle.cx_base.specs.Problem.{parities_of}
 use Rattle.proof_rules.specs.Contents.{IsParityContent}
-use Rattle.fratx_elab.specs.declared.content_index.Entry.{Entry}
+use Rattle.fratx_elab.specs.declared.content_index.ContentEntry.{ContentEntry}
 use Rattle.fratx_elab.specs.Contents.{HasFront, AreNumbered, SayFirst}
 use Rattle.fratx_elab.proofs.ContentIndex.{numbered_more, say_more}
 use Rattle.fratx_elab.proofs.originals.parity_entries.Goals as goal
@@ -25,7 +25,7 @@ loop-index-preserved c =
     let at : slice_get lists (length entries) ≡ Some lits = ap (slice_get lists) (sym here) ∙ c.parity.ensures.parity in
     let says : IsParityContent lits e.content.items = subst (IsParityContent lits) (sym (content ∙ c.in_ok-content.ensures.ok ∙ c.deref.ensures.value)) c.in_ok-fill_parity_content.ensures in
     record {
-      count = ap (λ (es : List Entry). length es) more ∙ length-append entries (e ∷ []) ∙ ap (λ k. k + 1) count;
+      count = ap (λ (es : List ContentEntry). length es) more ∙ length-append entries (e ∷ []) ∙ ap (λ k. k + 1) count;
       fronts = subst (All HasFront) (sym more) (All-push HasFront entries e before.fronts front);
       numbered = subst AreNumbered (sym more) (numbered_more entries e own before.numbered);
       say = subst (SayFirst IsParityContent lists) (sym more) (say_more IsParityContent lists entries e lits at says before.say);

@@ -4,7 +4,7 @@ use Rattle.cx_texts.specs.declared.line_state.LineState.TheVariants.{Kept}
 use Rattle.step_text.specs.Slots.{SlotState}
 use Rattle.step_text.specs.SlotAnswers.{IsAnswer}
 use Rattle.step_text.specs.Found.{FoundStep, IsFound}
-use Rattle.step_text.specs.declared.slot_reader.Found.TheVariants.{Refused, End}
+use Rattle.step_text.specs.declared.slot_reader.StepFinding.TheVariants.{Refused, End}
 use Rattle.step_text.proofs.AnswerLaws.{refusal_answer, step_answer, end_answer}
 use Rattle.step_text.proofs.slot_reader.SlotReader.take_found.Goals as goal
 

@@ -1,7 +1,7 @@
 use Rattle.std.proofs.Common.{◌+◌, ◌∙◌, sym, subst, refl, arith}
 use Rattle.clause_tidy.specs.Indexes.{IsIndexed}
 use Rattle.clause_tidy.proofs.RoomLaws.{nothing_indexed, all_wait_more}
-use Rattle.clause_tidy.proofs.room.Room.fill.Goals as goal
+use Rattle.clause_tidy.proofs.room.TidyRoom.fill.Goals as goal
 
 pub loop-place-init : goal.loop-place-init
 loop-place-init c = record {

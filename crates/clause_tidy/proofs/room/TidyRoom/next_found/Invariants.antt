@@ -1,6 +1,6 @@
 use Rattle.std.proofs.Common.{◌≡◌, length}
 use Rattle.clause_tidy.specs.Rooms.{IsRoomFor}
-use Rattle.clause_tidy.proofs.room.Room.next_found.Given as goal
+use Rattle.clause_tidy.proofs.room.TidyRoom.next_found.Given as goal
 
 abbrev pub invariant-loop-self : goal.invariant-loop-self
 invariant-loop-self l = record {

@@ -5,8 +5,8 @@ use Rattle.gf2_matrix.proofs.Updates.{same_read}
 use Rattle.parity_engine.specs.declared.state.Naming.{Naming}
 use Rattle.gauss_incremental.specs.Namings.{AreNamedBy}
 use Rattle.gauss_incremental.proofs.Stacks.{known_none, known_some, names_more, names_room, names_same}
-use Rattle.gauss_incremental.proofs.names.Names.name.Goals as goal
-use Rattle.gauss_incremental.proofs.names.Names.name.Goals.{After-index_mut}
+use Rattle.gauss_incremental.proofs.names.RowNames.name.Goals as goal
+use Rattle.gauss_incremental.proofs.names.RowNames.name.Goals.{After-index_mut}
 
 row_in : (c : After-index_mut) → c.args.row < length c.self.inside.named.items
 row_in c = subst (λ (ns : List (Option Naming)). c.args.row < length ns) (sym c.self.view_is) c.requires.row_in

@@ -2,7 +2,7 @@ use Rattle.std.proofs.Common.{◌≡◌, ℕ, ◌<◌, length}
 use Rattle.clause_arena.specs.Clauses.{IsLive}
 use Rattle.clause_tidy.specs.Indexes.{IsIndexed}
 use Rattle.clause_tidy.specs.Rooms.{IsWaiting}
-use Rattle.clause_tidy.proofs.room.Room.fill.Given as goal
+use Rattle.clause_tidy.proofs.room.TidyRoom.fill.Given as goal
 
 -- the first ones are in the index, and wait
 abbrev pub invariant-loop-place : goal.invariant-loop-place

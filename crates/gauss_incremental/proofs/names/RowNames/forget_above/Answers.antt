@@ -3,7 +3,7 @@ use Rattle.std.proofs.lemmas.List.{with_items_is}
 use Rattle.parity_engine.specs.declared.state.Naming.{Naming}
 use Rattle.parity_engine.specs.Namings.{keep_naming}
 use Rattle.gauss_incremental.specs.Namings.{AreClashesAbove}
-use Rattle.gauss_incremental.proofs.names.Names.forget_above.Goals as goal
+use Rattle.gauss_incremental.proofs.names.RowNames.forget_above.Goals as goal
 
 pub take_back-count-requires : goal.take_back-count-requires
 take_back-count-requires c =

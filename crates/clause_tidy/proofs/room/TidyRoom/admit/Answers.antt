@@ -1,12 +1,12 @@
 use Rattle.std.proofs.Common.{◌≡◌, ◌+◌, ◌*◌, ◌≤◌, ◌∙◌, refl, sym, ap, subst, ℕ, [], ◌∷◌, ◌++◌, length, arith}
 use Rattle.clause_arena.specs.Clauses.{IsLive}
 use Rattle.clause_tidy.specs.declared.look.Look.{Look}
-use Rattle.clause_tidy.specs.declared.room.Room.{Room}
+use Rattle.clause_tidy.specs.declared.room.TidyRoom.{TidyRoom}
 use Rattle.clause_tidy.specs.Indexes.{IsIndexed}
 use Rattle.clause_tidy.specs.Marks.{AreClear}
 use Rattle.clause_tidy.specs.Rooms.{IsWaiting}
 use Rattle.clause_tidy.proofs.RoomLaws.{still_indexed, new_is_known, due_with_none, due_with_one}
-use Rattle.clause_tidy.proofs.room.Room.admit.Goals as goal
+use Rattle.clause_tidy.proofs.room.TidyRoom.admit.Goals as goal
 
 pub returns-then-before-len : goal.returns-then-before-len
 returns-then-before-len c =
@@ -50,7 +50,7 @@ returns c =
     let b = c.args.arena.now in
     let old = c.args.self.now in
     let mid = c.enter.new.self in
-    let new : Room = record { index = mid.index; look = mid.look; queue = mid.queue; place = mid.place; found = c.push.new.self } in
+    let new : TidyRoom = record { index = mid.index; look = mid.look; queue = mid.queue; place = mid.place; found = c.push.new.self } in
     let r = c.new-clause.result in
     let is : r ≡ length a.clauses = c.new-clause.ensures ∙ w.1 in
     let entered = c.in_ok-enter.ensures in

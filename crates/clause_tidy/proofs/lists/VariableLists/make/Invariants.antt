@@ -1,5 +1,5 @@
 use Rattle.std.proofs.Common.{◌≡◌, length}
-use Rattle.clause_tidy.proofs.lists.Lists.make.Given as goal
+use Rattle.clause_tidy.proofs.lists.VariableLists.make.Given as goal
 
 abbrev pub invariant-loop : goal.invariant-loop
 invariant-loop l = length l.lists.items ≡ l.counter

@@ -1,6 +1,6 @@
 use Rattle.std.proofs.Common.{arith}
 use Rattle.clause_tidy.proofs.RoomLaws.{none_due}
-use Rattle.clause_tidy.proofs.room.Room.next.Goals as goal
+use Rattle.clause_tidy.proofs.room.TidyRoom.next.Goals as goal
 
 pub returns-then-self-len-clause-pair : goal.returns-then-self-len-clause-pair
 returns-then-self-len-clause-pair c =

@@ -1,6 +1,6 @@
 use Rattle.std.proofs.Common.{◌-◌, length}
 use Rattle.clause_tidy.specs.Rooms.{IsRoomFor}
-use Rattle.clause_tidy.proofs.room.Room.next.Given as goal
+use Rattle.clause_tidy.proofs.room.TidyRoom.next.Given as goal
 
 abbrev pub invariant-loop-pair : goal.invariant-loop-pair
 invariant-loop-pair l = IsRoomFor l.arena l.self

@@ -2,16 +2,16 @@ use Rattle.std.proofs.Common.{◌≡◌, ◌+◌, ◌≤◌, refl, sym, ap, leng
 use Rattle.std.specs.List.{HoldsAt}
 use Rattle.std.proofs.lemmas.List.{get_or_read}
 use Rattle.clause_tidy.specs.declared.room.Queued.{Queued}
-use Rattle.clause_tidy.specs.declared.room.Room.{Room}
+use Rattle.clause_tidy.specs.declared.room.TidyRoom.{TidyRoom}
 use Rattle.clause_tidy.proofs.Literals.{not_both}
 use Rattle.clause_tidy.proofs.RoomLaws.{due_after_dead, due_after_look, on_oks}
-use Rattle.clause_tidy.proofs.room.Room.look_on.Goals as goal
+use Rattle.clause_tidy.proofs.room.TidyRoom.look_on.Goals as goal
 
 pub returns-then-not-is_live-clause-room : goal.returns-then-not-is_live-clause-room
 returns-then-not-is_live-clause-room c =
     let a = c.args.arena.now in
     let old = c.args.self.now in
-    let new : Room = record { index = old.index; look = old.look; queue = old.queue; place = old.place + 1; found = old.found } in
+    let new : TidyRoom = record { index = old.index; look = old.look; queue = old.queue; place = old.place + 1; found = old.found } in
     let before = c.requires.room in
     let more = c.requires.more in
     let item = c.index.result.now in
@@ -31,7 +31,7 @@ pub returns-clause-room : goal.returns-clause-room
 returns-clause-room c =
     let a = c.args.arena.now in
     let old = c.args.self.now in
-    let new : Room = record { index = old.index; look = c.look.new.self; queue = old.queue; place = old.place + 1; found = c.look.new.found } in
+    let new : TidyRoom = record { index = old.index; look = c.look.new.self; queue = old.queue; place = old.place + 1; found = c.look.new.found } in
     let before = c.requires.room in
     let more = c.requires.more in
     let item = c.index.result.now in
