@@ -115,7 +115,7 @@ impl LiteralSet {
     }
 
     /// Puts a literal in. Without memory nothing changes.
-    // Those who follow a chain call it for each hint, where the call would cost a third of it.
+    // A chain calls it once for each hint, and the call would cost a third of that.
     #[inline(always)]
     pub fn insert(&mut self, lit: Lit) -> Result<(), AllocError>
         ensures ok { OnOk result (HaveSame self.new (lit ∷ self.old)) }

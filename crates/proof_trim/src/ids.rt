@@ -25,7 +25,7 @@ pub(crate) struct IdSet {
 }
 
 impl IdSet {
-    /// No id. There is room for so many ids, from 0; all others are looked for in a map.
+    /// No id. There is room for this many ids, from 0; all others are looked for in a map.
     pub(crate) fn with_room(alloc: Global, room: usize) -> Result<IdSet, AllocError>
         ensures { IfOk result (λ ids. HasIds ids (λ n. false)) }
     {

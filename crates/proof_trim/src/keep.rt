@@ -30,7 +30,7 @@ fn insert_numbers(names: &mut NameSet, kind: Kind, count: usize) -> Result<(), A
     Ok(())
 }
 
-/// The names of the formula's constraints, among which those of so many steps will come and go.
+/// The names of the formula's constraints, with room for those of this many steps.
 fn names_of(alloc: Global, formula: &Formula, steps: usize) -> Result<NameSet, AllocError>
     ensures { IfOk result (λ names. Has names (live_in (first_tables formula.now))) }
 {

@@ -17,13 +17,13 @@ pub(crate) struct NameSet {
     parities: IdSet,
 }
 
-/// Of this room for ids what parities get: none where the formula has no parity, since then few proofs make any.
+/// The room for ids of parities: none where the formula has no parity, since few proofs make any then.
 fn parity_room(formula: &Formula, room: usize) -> usize {
     if formula.parity_count() == 0 { 0 } else { room }
 }
 
 impl NameSet {
-    /// No name. There is room for the ids that the formula's constraints and so many steps have where these are numbered one
+    /// No name. There is room for the ids that the formula's constraints and this many steps have where these are numbered one
     /// after another; all others are looked for in maps.
     pub(crate) fn beside(
         alloc: Global,
