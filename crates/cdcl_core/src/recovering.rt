@@ -23,7 +23,7 @@ use std::alloc::{AllocError, Global};
 use step_text::Sink;
 use xor_recover::{FoundParity, recover};
 
-/// Puts the parity at a place of the formula, where there is one, behind those of the places before.
+/// Puts the parity at a place of the formula, where there is one, after those of the places before.
 fn add_parity(
     alloc: Global,
     formula: &Formula,

@@ -5,7 +5,7 @@ use cx_base::{Lit, LitList};
 use std::alloc::{AllocError, Global};
 use std::marker::Model;
 
-/// Parities whose literals stand one behind the other, so that an empty one takes eight bytes.
+/// Parities whose literals follow one another, so that an empty one takes eight bytes.
 #[derive(Drop)]
 pub(crate) struct FlatParities {
     lits: Vec<Lit>,

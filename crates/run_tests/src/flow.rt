@@ -17,7 +17,7 @@ use std::test::Fail;
 const PLANTED: &str =
     "p cnf 8 17\nx-1 2 4 0\nx-4 5 7 0\nx1 4 6 0\nx-2 5 6 0\nx1 2 3 0\n-1 -8 6 0\n4 8 6 0\n8 -5 -2 0\n-3 6 7 0\n7 5 -6 0\n8 -7 5 0\n-6 1 4 0\n-7 3 4 0\n7 6 2 0\n4 -5 -7 0\n-6 -4 -3 0\n-7 8 -6 0\n";
 
-/// The odd parity, as it stands.
+/// The odd parity as it is.
 const ODD: &str = "x1 6 7 0\n";
 
 /// The odd parity, hidden in four clauses.
