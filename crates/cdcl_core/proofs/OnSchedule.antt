@@ -85,7 +85,7 @@ module _ (old now new : Schedule) (count : ℕ) (on : IsOnSchedule old count) (s
   all_counted = let counted = on.counted in let total = sum_push on.numbers v in let now_is = just_now in omega (arith, counted, total, now_is)
 
   pub is_restart : IsRestart (count + 1)
-  is_restart = (on.numbers ++ v ∷ [], numbers_are, all_counted)
+  is_restart = (length (on.numbers ++ v ∷ []), (on.numbers ++ v ∷ [], numbers_are, refl, all_counted))
 
   pub restarts_on_schedule : new.since ≡ 0 → new.restarts ≡ now.restarts + 1 → IsOnSchedule new (count + 1)
   restarts_on_schedule none one_more = record {

@@ -11,13 +11,13 @@ use Rattle.search_policy.specs.Restarts.{IsLuby}
 pub record AreLuby (numbers : List ℕ) : Type 0 where
   pub each : (i : ℕ) → i < length numbers → IsLuby (i + 1) (get_or numbers i 0)
 
--- A search restarts where the conflicts are a hundred times the sum of the first of Luby's numbers.
-abbrev pub IsRestart : ℕ → Type 0
-IsRestart conflicts = (numbers : List ℕ) × AreLuby numbers × (conflicts ≡ 100 * sum numbers)
-
--- restart r comes at a hundred times the sum of the first r of them
+-- Restart r of a search comes where the conflicts are a hundred times the sum of the first r of Luby's numbers.
 abbrev pub IsRestartAt : ℕ → ℕ → Type 0
 IsRestartAt r conflicts = (numbers : List ℕ) × AreLuby numbers × (length numbers ≡ r) × (conflicts ≡ 100 * sum numbers)
+
+-- some restart comes there
+abbrev pub IsRestart : ℕ → Type 0
+IsRestart conflicts = (r : ℕ) × IsRestartAt r conflicts
 
 -- what the next event finds
 abbrev pub moment_after : List LogEvent → Moment
