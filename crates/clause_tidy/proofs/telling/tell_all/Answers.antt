@@ -1,10 +1,11 @@
-use Rattle.std.proofs.Common.{◌≡◌, rules, refl, sym, ap, ◌∙◌, List, [], ◌∷◌, ◌++◌, Option, length}
+use Rattle.std.proofs.Common.{◌≡◌, refl, sym, ap, ◌∙◌, subst, List, [], ◌∷◌, ◌++◌, Option, Err, length}
 use Rattle.std.proofs.lemmas.Iterator.Adapters.{YieldsList-from_vec}
 use Rattle.std.proofs.lemmas.Iterator.Consumers.{YieldsList-turn, YieldsList-so_far}
 use Rattle.std.proofs.lemmas.List.{map-id}
 use Rattle.cx_base.specs.declared.steps.LogStep.{LogStep}
 use Rattle.cx_base.specs.declared.steps.LogEvent.{LogEvent}
 use Rattle.cx_base.specs.declared.steps.LogEvent.TheVariants.{Step}
+use Rattle.step_text.specs.Sinks.{SinkFaultsAs, HasFailedAs}
 use Rattle.clause_tidy.specs.Telling.{as_events, with_events}
 use Rattle.clause_tidy.proofs.Events.{more_and_more, stops_there}
 use Rattle.clause_tidy.proofs.telling.tell_all.Goals as goal
@@ -27,7 +28,12 @@ returns-in-Err g c =
     let so_far = sym (map-id front) ∙ YieldsList-so_far road front _ c.loop-step.yielded_by in
     let told = stops_there (g.L.Sink.torn c.tell_one.new.log) c.args.steps.items (length front) c.in-Some.step first (g.L.Sink.items c.loop-step.log) (g.L.Sink.items c.tell_one.new.log) c.in-Err.fault
     turn.0 turn.1 (c.loop-step.invariant.0 ∙ ap (λ steps. with_events (as_events steps) first) so_far) c.in-Err.ensures.told in
-    record { told = told; faults = search rules; failed = search rules; frame = search rules }
+    record {
+      told = told;
+      faults = subst (λ n. SinkFaultsAs {T = Unit {0}} (Err c.in-Err.fault) n (g.L.Sink.faults c.tell_one.new.log)) c.loop-step.invariant.1 c.in-Err.ensures.faults;
+      failed = subst (λ b. HasFailedAs {T = Unit {0}} (Err c.in-Err.fault) b (g.L.Sink.has_failed c.tell_one.new.log)) c.loop-step.invariant.2 c.in-Err.ensures.failed;
+      frame = g.met.L.Sink.keeps_on c.args.log.now c.loop-step.log c.tell_one.new.log c.loop-step.invariant.3 c.in-Err.ensures.frame;
+    }
 
 pub tell_one-requires-clause-going : goal.tell_one-requires-clause-going
 tell_one-requires-clause-going g c = c.loop-step.invariant.2 ∙ c.requires.going
