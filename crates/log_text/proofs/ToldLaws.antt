@@ -1,74 +1,39 @@
 -- What a port that was given lines of events tells.
-use Rattle.std.proofs.Common.{◌≡◌, refl, sym, ap, ◌∙◌, subst, ℕ, ◌+◌, ◌^◌, ◌<◌, ◌≤◌, lit<, lt_trans, true, List, [], ◌∷◌, ◌++◌, map, flat_map, length, take, codes, decimal, append_assoc, append-nil, length-append, arith, Some, option_map}
+use Rattle.std.proofs.Common.{◌≡◌, sym, ap, ◌∙◌, ℕ, ◌+◌, ◌<◌, ◌≤◌, true, List, [], ◌∷◌, ◌++◌, flat_map, length, take, append_assoc, append-nil, length-append, arith, Some, option_map}
 use Rattle.std.specs.List.{AllByRecursion}
-use Rattle.std.proofs.lemmas.Fmt.{decimal_is_IsNumeral_wide}
 use Rattle.std.proofs.lemmas.Grind.{flat_map-append}
 use Rattle.std.proofs.lemmas.List.{take-append-le}
 use Rattle.cx_desk.specs.declared.desk.Port.TheVariants.{Proof}
 use Rattle.cx_desk.specs.Outside.{Bytes, Outside}
 use Rattle.cx_desk.specs.Calls.{gained}
 use Rattle.cx_base.specs.declared.steps.LogEvent.{LogEvent}
-use Rattle.cx_base.specs.declared.steps.LogEvent.TheVariants.{Step, Conflict}
-use Rattle.cx_base.specs.Endings.{Ending, finished}
-use Rattle.cx_texts.specs.Tokens.{lines_from}
-use Rattle.cx_texts.specs.Grammar.{spelling}
-use Rattle.cx_texts.specs.LogText.{log_steps, log_events, EventsRead, event_words_of_line}
-use Rattle.cx_texts.specs.Printed.{printed_word, printed_log, HasText}
-use Rattle.cx_texts.proofs.Grammars.{event_forms}
-use Rattle.cx_texts.proofs.Readings.{one_reading}
-use Rattle.cx_texts.proofs.Lines.{NoFeed}
-use Rattle.cx_texts.proofs.SpokenWords.{spoken_log_step}
-use Rattle.cx_texts.proofs.PrintedWords.{IsPiece, decimal_piece, joined, no_feed_joined, plain_pieces, plain_all}
-use Rattle.cx_texts.proofs.PrintedLogs.{printed_log_reads}
+use Rattle.cx_texts.specs.Printed.{printed_log, HasText}
+use Rattle.cx_texts.proofs.PrintedLogs.{line_text, no_feed_event}
 use Rattle.proof_text.specs.Told.{whole_lines, begun_line, is_none, is_whole}
 use Rattle.proof_text.proofs.ToldLaws.{no_feed_front, lines-append, begun-append, no_line, all_begun, one_line, line_ends, none_left}
+use Rattle.log_text.specs.LineLaws.{event_is_read}
 use Rattle.log_text.specs.Told.{event_line, events_read, told_events, events_told}
 use Rattle.step_text.specs.Sinks.{with_next}
 use Rattle.step_text.proofs.Puts.{Fails}
 
--- ---- a printed event has one line feed, at its end
-
-abbrev words_text : LogEvent → Bytes
-words_text e = joined (spelling log_events e)
-
-mark_pieces : (k : ℕ) → k < 2 ^ 64 → AllByRecursion IsPiece (codes "c" ∷ codes "conflict" ∷ decimal k ∷ [])
-mark_pieces k h = (
-  record { first = 99; rest = []; is = refl; no_blank = (refl, tt) },
-  (
-    record { first = 99; rest = codes "onflict"; is = refl; no_blank = (refl, (refl, (refl, (refl, (refl, (refl, (refl, (refl, tt)))))))) },
-    (decimal_piece (decimal k) (decimal_is_IsNumeral_wide k (lt_trans h (lit< tt))).0, tt),
-  ),
-)
-
-no_feed_event : (e : LogEvent) → HasText e → NoFeed (words_text e)
-no_feed_event (Step s) h = no_feed_joined (map printed_word (spelling log_steps s)) (plain_pieces _ (plain_all (spelling log_steps s) (spoken_log_step s) h.1))
-no_feed_event (Conflict k) h = no_feed_joined (codes "c" ∷ codes "conflict" ∷ decimal k ∷ []) (mark_pieces k h)
-
 -- ---- events
-
-event_is_read : (s : LogEvent) → HasText s → events_read (event_line s) ≡ s ∷ []
-event_is_read s h =
-    let reads = printed_log_reads (s ∷ []) (h, tt) in
-    let text : printed_log (s ∷ []) ≡ event_line s = append-nil (event_line s) in
-    let one = (one_reading log_events event_forms (length (event_line s)) (flat_map event_words_of_line (lines_from 0 (event_line s)))).2 (s ∷ [], finished) (subst (λ (t : Bytes). EventsRead t (s ∷ []) finished) text reads) in
-    ap (λ (x : List LogEvent × Ending). x.0) (sym one)
 
 pub told_event : (b : Bytes) (s : LogEvent) → begun_line [] b ≡ [] → HasText s → told_events (b ++ event_line s) ≡ told_events b ++ s ∷ []
 told_event b s e h =
-    ap (flat_map events_read) (lines-append [] b (event_line s) ∙ ap (λ x. whole_lines [] b ++ whole_lines x (event_line s)) e ∙ ap (λ ls. whole_lines [] b ++ ls) (one_line (words_text s) (no_feed_event s h)))
+    ap (flat_map events_read) (lines-append [] b (event_line s) ∙ ap (λ x. whole_lines [] b ++ whole_lines x (event_line s)) e ∙ ap (λ ls. whole_lines [] b ++ ls) (one_line (line_text s) (no_feed_event s h)))
     ∙ flat_map-append events_read (whole_lines [] b) (event_line s ∷ [])
     ∙ ap (λ x. told_events b ++ x) (append-nil (events_read (event_line s)) ∙ event_is_read s h)
 
 pub event_ends : (b : Bytes) (s : LogEvent) → begun_line [] b ≡ [] → HasText s → begun_line [] (b ++ event_line s) ≡ []
-event_ends b s e h = begun-append [] b (event_line s) ∙ ap (λ x. begun_line x (event_line s)) e ∙ line_ends (words_text s) (no_feed_event s h)
+event_ends b s e h = begun-append [] b (event_line s) ∙ ap (λ x. begun_line x (event_line s)) e ∙ line_ends (line_text s) (no_feed_event s h)
 
 pub told_front : (b : Bytes) (s : LogEvent) (k : ℕ) → HasText s → k < length (event_line s) → told_events (b ++ take k (event_line s)) ≡ told_events b
 told_front b s k h low =
-    let l : length (event_line s) ≡ length (words_text s) + 1 = length-append (words_text s) (10 ∷ []) in
-    let within : k ≤ length (words_text s) = omega arith in
-    let front : take k (event_line s) ≡ take k (words_text s) = take-append-le k (words_text s) (10 ∷ []) within in
+    let l : length (event_line s) ≡ length (line_text s) + 1 = length-append (line_text s) (10 ∷ []) in
+    let within : k ≤ length (line_text s) = omega arith in
+    let front : take k (event_line s) ≡ take k (line_text s) = take-append-le k (line_text s) (10 ∷ []) within in
     ap (λ x. told_events (b ++ x)) front
-    ∙ ap (flat_map events_read) (lines-append [] b (take k (words_text s)) ∙ ap (λ ls. whole_lines [] b ++ ls) (no_line (begun_line [] b) (take k (words_text s)) (no_feed_front k (words_text s) (no_feed_event s h))) ∙ append-nil (whole_lines [] b))
+    ∙ ap (flat_map events_read) (lines-append [] b (take k (line_text s)) ∙ ap (λ ls. whole_lines [] b ++ ls) (no_line (begun_line [] b) (take k (line_text s)) (no_feed_front k (line_text s) (no_feed_event s h))) ∙ append-nil (whole_lines [] b))
 
 -- a port of whole lines that was given the lines of a log tells its events besides
 pub told_log : (b : Bytes) (events : List LogEvent) → begun_line [] b ≡ [] → AllByRecursion HasText events → told_events (b ++ printed_log events) ≡ told_events b ++ events
@@ -86,10 +51,10 @@ begun_log b (s ∷ events) e h = ap (begun_line []) (sym (append_assoc b (event_
 -- a prefix of an event's line after whole lines is the line that is begun
 pub begun_front : (b : Bytes) (s : LogEvent) (k : ℕ) → begun_line [] b ≡ [] → HasText s → k < length (event_line s) → begun_line [] (b ++ take k (event_line s)) ≡ take k (event_line s)
 begun_front b s k e h low =
-    let l : length (event_line s) ≡ length (words_text s) + 1 = length-append (words_text s) (10 ∷ []) in
-    let within : k ≤ length (words_text s) = omega arith in
-    let front : take k (event_line s) ≡ take k (words_text s) = take-append-le k (words_text s) (10 ∷ []) within in
-    begun-append [] b (take k (event_line s)) ∙ ap (λ x. begun_line x (take k (event_line s))) e ∙ ap (begun_line []) front ∙ all_begun [] (take k (words_text s)) (no_feed_front k (words_text s) (no_feed_event s h)) ∙ sym front
+    let l : length (event_line s) ≡ length (line_text s) + 1 = length-append (line_text s) (10 ∷ []) in
+    let within : k ≤ length (line_text s) = omega arith in
+    let front : take k (event_line s) ≡ take k (line_text s) = take-append-le k (line_text s) (10 ∷ []) within in
+    begun-append [] b (take k (event_line s)) ∙ ap (λ x. begun_line x (take k (event_line s))) e ∙ ap (begun_line []) front ∙ all_begun [] (take k (line_text s)) (no_feed_front k (line_text s) (no_feed_event s h)) ∙ sym front
 
 -- ---- the outside
 

@@ -1,19 +1,20 @@
 //! A log that is printed event by event on a desk's Proof port.
 ghost use Rattle.std.specs.Prelude.{◌≡◌, true, false, OnOk, OnErr, IfErr};
 ghost use Rattle.cx_texts.specs.Printed.{HasText};
-ghost use Rattle.step_text.specs.Sinks.{with_next, SinkFaultsAs, HasFailedAs, OnFailed};
+ghost use Rattle.step_text.specs.Sinks.{with_next, with_tidy, SinkFaultsAs, HasFailedAs, OnFailed};
 ghost use Rattle.step_text.specs.declared.sink.SinkFault.TheVariants as fault;
 ghost use Rattle.proof_text.specs.Told.{is_whole, fault_of};
 ghost use Rattle.log_text.specs.Told.{events_told, TornOn, Goes};
+ghost use Rattle.log_text.specs.Lines.{lines_told, TornTidyOn, GoesByLines};
 
-use crate::print::put_event;
+use crate::print::{put_event, put_tidy};
 use cx_base::LogEvent;
 use cx_desk::{Desk, Failed, Port};
 use step_text::{Sink, SinkFault};
 
-/// A sink that prints each event on the Proof port of a lent desk at once. It takes no memory.
+/// A sink that prints each event and each tidy line on the Proof port of a lent desk at once. It takes no memory.
 ///
-/// It tells the events of the port's whole lines. It counts one fault at most: it is not asked again after that.
+/// It tells the events and the tidy lines of the port's whole lines. It counts one fault at most: it is not asked again after that.
 #[derive(Drop)]
 pub struct DeskLog<'a, D: Desk> {
     desk: &'a mut D,
@@ -45,6 +46,8 @@ impl<D: Desk> Sink for DeskLog<'_, D> {
     ghost use Rattle.proof_text.specs.Told.{fault_of};
     ghost use Rattle.log_text.specs.Told.{events_told, TornOn, Goes};
     ghost use Rattle.log_text.specs.ToldEvents.{goes_itself, goes_on};
+    ghost use Rattle.log_text.specs.Lines.{lines_told, TornTidyOn, GoesByLines};
+    ghost use Rattle.log_text.specs.ToldLines.{are_items, gains_items, goes_by_lines, goes_on_by_lines};
 
     ghost items = { λ s. events_told (D.outside s.desk.now) };
 
@@ -54,7 +57,13 @@ impl<D: Desk> Sink for DeskLog<'_, D> {
 
     ghost torn = { λ s event. TornOn event (D.outside s.desk.now) };
 
+    ghost lines = { λ s. lines_told (D.outside s.desk.now) };
+
+    ghost torn_tidy = { λ s r. TornTidyOn r (D.outside s.desk.now) };
+
     ghost keeps = { λ a b. (b.desk.ghost_name ≡ a.desk.ghost_name) × Goes a.failed (D.outside a.desk.now) b.failed (D.outside b.desk.now) };
+
+    ghost keeps_else = { λ a b. (b.desk.ghost_name ≡ a.desk.ghost_name) × GoesByLines a.failed (D.outside a.desk.now) b.failed (D.outside b.desk.now) };
 
     /// Prints the event. `Memory` is never answered.
     fn put(&mut self, event: &LogEvent) -> Result<(), SinkFault>
@@ -78,7 +87,37 @@ impl<D: Desk> Sink for DeskLog<'_, D> {
         }
     }
 
+    /// Prints the line `c tidy R`. `Memory` is never answered.
+    fn tidied(&mut self, restart: u64) -> Result<(), SinkFault>
+        requires going { self.old.failed ≡ false }
+        ensures same { events_told (D.outside self.new.desk.now) ≡ events_told (D.outside self.old.desk.now) }
+        ensures told { OnOk result (lines_told (D.outside self.new.desk.now) ≡ with_tidy restart (lines_told (D.outside self.old.desk.now))) }
+        ensures untold { OnErr result (lines_told (D.outside self.new.desk.now) ≡ lines_told (D.outside self.old.desk.now)) }
+        ensures torn { OnFailed result (TornTidyOn restart (D.outside self.new.desk.now)) }
+        ensures faults { SinkFaultsAs result (fault_of self.old.failed) (fault_of self.new.failed) }
+        ensures failed { HasFailedAs result self.old.failed self.new.failed }
+        ensures no_memory { IfErr result (λ e. e ≡ fault.Failed) }
+        ensures frame { (self.new.desk.ghost_name ≡ self.old.desk.ghost_name) × GoesByLines self.old.failed (D.outside self.old.desk.now) self.new.failed (D.outside self.new.desk.now) }
+    {
+        self.failed = true;
+        match put_tidy(self.desk, Port::Proof, restart) {
+            Ok(()) => {
+                self.failed = false;
+                Ok(())
+            }
+            Err(Failed) => Err(SinkFault::Failed),
+        }
+    }
+
+    ghost are_items = { λ a. are_items (D.outside a.desk.now) };
+
+    ghost gains_items = { λ a b h. gains_items a.failed (D.outside a.desk.now) b.failed (D.outside b.desk.now) a.whole h.1 };
+
     ghost keeps_itself = { λ a. (refl, goes_itself a.failed (D.outside a.desk.now)) };
 
     ghost keeps_on = { λ a b c h k. (k.0 ∙ h.0, goes_on a.failed (D.outside a.desk.now) b.failed (D.outside b.desk.now) c.failed (D.outside c.desk.now) h.1 k.1) };
+
+    ghost items_keep_else = { λ a b h. (h.0, goes_by_lines a.failed (D.outside a.desk.now) b.failed (D.outside b.desk.now) h.1) };
+
+    ghost keeps_else_on = { λ a b c h k. (k.0 ∙ h.0, goes_on_by_lines a.failed (D.outside a.desk.now) b.failed (D.outside b.desk.now) c.failed (D.outside c.desk.now) h.1 k.1) };
 }

@@ -1,5 +1,5 @@
 //! A log that is kept as a list.
-ghost use Rattle.std.specs.Prelude.{◌≡◌, [], ◌∷◌, ◌++◌, OnOk, OnErr, IfErr};
+ghost use Rattle.std.specs.Prelude.{◌≡◌, [], ◌∷◌, ◌++◌, IsOk, OnOk, OnErr, IfErr};
 ghost use Rattle.std.specs.List.{AllByRecursion};
 ghost use Rattle.cx_base.specs.declared.steps.LogEvent.TheVariants.{Step, Conflict};
 ghost use Rattle.cx_base.specs.Endings.{finished};
@@ -79,7 +79,7 @@ impl ListLog {
 impl Sink for ListLog {
     type Item = LogEvent;
 
-    ghost use Rattle.std.specs.Prelude.{Some, false};
+    ghost use Rattle.std.specs.Prelude.{Some, None, false};
 
     ghost items = { λ a. Some a };
 
@@ -89,7 +89,13 @@ impl Sink for ListLog {
 
     ghost torn = { λ _ _. ⊥ };
 
+    ghost lines = { λ _. None };
+
+    ghost torn_tidy = { λ _ _. ⊥ };
+
     ghost keeps = { λ _ _. Unit {0} };
+
+    ghost keeps_else = { λ _ _. Unit {0} };
 
     /// Keeps a copy of the event.
     fn put(&mut self, event: &LogEvent) -> Result<(), SinkFault>
@@ -104,7 +110,23 @@ impl Sink for ListLog {
         }
     }
 
+    /// Keeps nothing of the tidy line.
+    fn tidied(&mut self, _restart: u64) -> Result<(), SinkFault>
+        ensures never_fails { IsOk result }
+        ensures unchanged { self.new ≡ self.old }
+    {
+        Ok(())
+    }
+
+    ghost are_items = { λ _. tt };
+
+    ghost gains_items = { λ _ _ _. tt };
+
     ghost keeps_itself = { λ _. tt };
 
     ghost keeps_on = { λ _ _ _ _ _. tt };
+
+    ghost items_keep_else = { λ _ _ _. tt };
+
+    ghost keeps_else_on = { λ _ _ _ _ _. tt };
 }

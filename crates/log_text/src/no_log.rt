@@ -22,7 +22,13 @@ impl Sink for NoLog {
 
     ghost torn = { λ _ _. ⊥ };
 
+    ghost lines = { λ _. None };
+
+    ghost torn_tidy = { λ _ _. ⊥ };
+
     ghost keeps = { λ _ _. Unit {0} };
+
+    ghost keeps_else = { λ _ _. Unit {0} };
 
     /// Forgets the event.
     fn put(&mut self, _event: &LogEvent) -> Result<(), SinkFault>
@@ -32,7 +38,22 @@ impl Sink for NoLog {
         Ok(())
     }
 
+    /// Forgets the tidy line.
+    fn tidied(&mut self, _restart: u64) -> Result<(), SinkFault>
+        ensures never_fails { IsOk result }
+    {
+        Ok(())
+    }
+
+    ghost are_items = { λ _. tt };
+
+    ghost gains_items = { λ _ _ _. tt };
+
     ghost keeps_itself = { λ _. tt };
 
     ghost keeps_on = { λ _ _ _ _ _. tt };
+
+    ghost items_keep_else = { λ _ _ _. tt };
+
+    ghost keeps_else_on = { λ _ _ _ _ _. tt };
 }

@@ -1,11 +1,12 @@
 //! The printed form of logs.
-ghost use Rattle.std.specs.Prelude.{[], ◌∷◌, ◌++◌, flat_map, decimal};
+ghost use Rattle.std.specs.Prelude.{[], ◌∷◌, ◌++◌, ◌<◌, ◌^◌, flat_map, decimal};
 ghost use Rattle.cx_desk.specs.Calls.{PutsAll};
 ghost use Rattle.cx_base.specs.declared.steps.LogEvent.TheVariants.{Step};
+ghost use Rattle.cx_base.specs.Lines.{tidy};
 ghost use Rattle.cx_texts.specs.Words.{conflict};
 ghost use Rattle.cx_texts.specs.Grammar.{spelling, spelled, mark, id, ids, integers, end, pairs};
 ghost use Rattle.cx_texts.specs.LogText.{log_steps, log_events};
-ghost use Rattle.cx_texts.specs.Printed.{printed_line, printed_log, HasText};
+ghost use Rattle.cx_texts.specs.Printed.{printed_line, printed_log, printed_log_line, HasText};
 ghost use Rattle.step_text.specs.Spaced.{spaced};
 
 use crate::list_log::ListLog;
@@ -149,6 +150,14 @@ fn put_mark<D: Desk>(desk: &mut D, port: Port, k: u64) -> Result<(), Failed>
     ensures { PutsAll port (printed_line (conflict k ∷ [])) (D.outside desk.old) result (D.outside desk.new) }
 {
     put_id(desk, port, b"c conflict ", k, b"\n")
+}
+
+/// The line that says that the clauses are tidy at this restart.
+pub(crate) fn put_tidy<D: Desk>(desk: &mut D, port: Port, restart: u64) -> Result<(), Failed>
+    ensures number { restart < 2 ^ 64 }
+    ensures line { PutsAll port (printed_log_line (tidy restart)) (D.outside desk.old) result (D.outside desk.new) }
+{
+    put_id(desk, port, b"c tidy ", restart, b"\n")
 }
 
 /// The line of an event.

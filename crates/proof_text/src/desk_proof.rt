@@ -1,7 +1,9 @@
 //! A proof that is printed step by step on a desk's proof port.
-ghost use Rattle.std.specs.Prelude.{◌≡◌, true, false, OnOk, OnErr, IfErr};
+ghost use Rattle.std.specs.Prelude.{◌≡◌, true, false, List, Option, None, IsOk, OnOk, OnErr, IfErr};
+ghost use Rattle.cx_base.specs.Lines.{Line};
+ghost use Rattle.cx_base.specs.declared.steps.ProofStep.{ProofStep};
 ghost use Rattle.cx_texts.specs.Printed.{HasProofText};
-ghost use Rattle.step_text.specs.Sinks.{with_next, SinkFaultsAs, HasFailedAs, OnFailed};
+ghost use Rattle.step_text.specs.Sinks.{with_next, with_tidy, SinkFaultsAs, HasFailedAs, OnFailed};
 ghost use Rattle.step_text.specs.declared.sink.SinkFault.TheVariants as fault;
 ghost use Rattle.proof_text.specs.Told.{steps_told, is_whole, fault_of, TornOn, Goes};
 
@@ -73,7 +75,7 @@ impl<'a, D: Desk> DeskProof<'a, D> {
 impl<D: Desk> Sink for DeskProof<'_, D> {
     type Item = ProofStep;
 
-    ghost use Rattle.std.specs.Prelude.{◌≡◌, refl};
+    ghost use Rattle.std.specs.Prelude.{◌≡◌, refl, None};
     ghost use Rattle.std.proofs.Common.{◌∙◌};
     ghost use Rattle.proof_text.specs.Told.{steps_told, fault_of, TornOn, Goes};
     ghost use Rattle.proof_text.specs.ToldSteps.{goes_itself, goes_on};
@@ -86,7 +88,13 @@ impl<D: Desk> Sink for DeskProof<'_, D> {
 
     ghost torn = { λ s step. TornOn step (D.outside s.desk.now) };
 
+    ghost lines = { λ _. None };
+
+    ghost torn_tidy = { λ _ _. ⊥ };
+
     ghost keeps = { λ a b. (b.desk.ghost_name ≡ a.desk.ghost_name) × Goes a.failed (D.outside a.desk.now) b.failed (D.outside b.desk.now) };
+
+    ghost keeps_else = { λ a b. (b.desk.ghost_name ≡ a.desk.ghost_name) × Goes a.failed (D.outside a.desk.now) b.failed (D.outside b.desk.now) };
 
     /// Prints the step. `Memory` is never answered.
     fn put(&mut self, step: &ProofStep) -> Result<(), SinkFault>
@@ -103,7 +111,30 @@ impl<D: Desk> Sink for DeskProof<'_, D> {
         put_step(&mut self.sheet, self.desk, &mut self.failed, step)
     }
 
+    /// A proof has no tidy line: nothing is printed of it.
+    fn tidied(&mut self, _restart: u64) -> Result<(), SinkFault>
+        requires going { self.old.failed ≡ false }
+        ensures never_fails { IsOk result }
+        ensures same { steps_told (D.outside self.new.desk.now) ≡ steps_told (D.outside self.old.desk.now) }
+        ensures told { OnOk result (None ≡ with_tidy {I = ProofStep} _restart None) }
+        ensures untold { OnErr result (◌≡◌ {A = Option (List (Line ProofStep))} None None) }
+        ensures torn { OnFailed result ⊥ }
+        ensures faults { SinkFaultsAs result (fault_of self.old.failed) (fault_of self.new.failed) }
+        ensures failed { HasFailedAs result self.old.failed self.new.failed }
+        ensures frame { (self.new.desk.ghost_name ≡ self.old.desk.ghost_name) × Goes self.old.failed (D.outside self.old.desk.now) self.new.failed (D.outside self.new.desk.now) }
+    {
+        Ok(())
+    }
+
+    ghost are_items = { λ _. tt };
+
+    ghost gains_items = { λ _ _ _. tt };
+
     ghost keeps_itself = { λ a. (refl, goes_itself a.failed (D.outside a.desk.now)) };
 
     ghost keeps_on = { λ a b c h k. (k.0 ∙ h.0, goes_on a.failed (D.outside a.desk.now) b.failed (D.outside b.desk.now) c.failed (D.outside c.desk.now) h.1 k.1) };
+
+    ghost items_keep_else = { λ _ _ h. h };
+
+    ghost keeps_else_on = { λ a b c h k. (k.0 ∙ h.0, goes_on a.failed (D.outside a.desk.now) b.failed (D.outside b.desk.now) c.failed (D.outside c.desk.now) h.1 k.1) };
 }

@@ -1,5 +1,5 @@
 //! A proof that is kept as a list.
-ghost use Rattle.std.specs.Prelude.{◌≡◌, [], ◌∷◌, ◌++◌, OnOk, OnErr, IfErr};
+ghost use Rattle.std.specs.Prelude.{◌≡◌, [], ◌∷◌, ◌++◌, IsOk, OnOk, OnErr, IfErr};
 ghost use Rattle.std.specs.List.{AllByRecursion};
 ghost use Rattle.cx_base.specs.Endings.{finished};
 ghost use Rattle.cx_texts.specs.ProofText.{ProofReads};
@@ -77,7 +77,7 @@ impl ListProof {
 impl Sink for ListProof {
     type Item = ProofStep;
 
-    ghost use Rattle.std.specs.Prelude.{Some, false};
+    ghost use Rattle.std.specs.Prelude.{Some, None, false};
 
     ghost items = { λ a. Some a };
 
@@ -87,7 +87,13 @@ impl Sink for ListProof {
 
     ghost torn = { λ _ _. ⊥ };
 
+    ghost lines = { λ _. None };
+
+    ghost torn_tidy = { λ _ _. ⊥ };
+
     ghost keeps = { λ _ _. Unit {0} };
+
+    ghost keeps_else = { λ _ _. Unit {0} };
 
     /// Keeps a copy of the step.
     fn put(&mut self, step: &ProofStep) -> Result<(), SinkFault>
@@ -102,7 +108,23 @@ impl Sink for ListProof {
         }
     }
 
+    /// A proof has no tidy line: nothing is kept of it.
+    fn tidied(&mut self, _restart: u64) -> Result<(), SinkFault>
+        ensures never_fails { IsOk result }
+        ensures unchanged { self.new ≡ self.old }
+    {
+        Ok(())
+    }
+
+    ghost are_items = { λ _. tt };
+
+    ghost gains_items = { λ _ _ _. tt };
+
     ghost keeps_itself = { λ _. tt };
 
     ghost keeps_on = { λ _ _ _ _ _. tt };
+
+    ghost items_keep_else = { λ _ _ _. tt };
+
+    ghost keeps_else_on = { λ _ _ _ _ _. tt };
 }

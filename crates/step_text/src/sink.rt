@@ -1,6 +1,7 @@
 //! Where the steps of a proof and the events of a log go, one after another.
 ghost use Rattle.std.specs.Prelude.{◌≡◌, ℕ, Bool, false, List, Option, OnOk, OnErr};
-ghost use Rattle.step_text.specs.Sinks.{with_next, SinkFaultsAs, HasFailedAs, OnFailed};
+ghost use Rattle.cx_base.specs.Lines.{Line};
+ghost use Rattle.step_text.specs.Sinks.{with_next, with_tidy, AreItemsOf, GainsItems, SinkFaultsAs, HasFailedAs, OnFailed};
 
 use cx_texts::Textual;
 use thiserror::Error;
@@ -16,7 +17,8 @@ pub enum SinkFault {
     Failed,
 }
 
-/// Takes items, one after another: the steps of a proof, or the steps of a log and the marks of its conflicts.
+/// Takes items, one after another: the steps of a proof, or the steps of a log and the marks of its conflicts. Between these
+/// come tidy lines, each of which says that the clauses are tidy.
 pub trait Sink {
     type Item: Textual;
 
@@ -32,8 +34,17 @@ pub trait Sink {
     // a part of this item was written after the others, after a fault
     ghost torn: { Self → Self.Item → Type 0 };
 
-    // what a call leaves as it was
+    // the items in order and the tidy lines between them, where it tells these
+    ghost lines: { Self → Option (List (Line Self.Item)) };
+
+    // a part of the tidy line of this restart was written after the others, after a fault
+    ghost torn_tidy: { Self → ℕ → Type 0 };
+
+    // what items leave as it was
     ghost keeps: { Self → Self → Type 0 };
+
+    // what items and tidy lines leave as it was
+    ghost keeps_else: { Self → Self → Type 0 };
 
     /// Takes the next item, which a text can have. A sink that has failed is not asked again.
     fn put(&mut self, item: &Self::Item) -> Result<(), SinkFault>
@@ -46,7 +57,26 @@ pub trait Sink {
         ensures failed { HasFailedAs result (has_failed self.old) (has_failed self.new) }
         ensures frame { keeps self.old self.new };
 
+    /// Takes the line that says that the clauses are tidy at this restart. A sink that has failed is not asked again.
+    fn tidied(&mut self, restart: u64) -> Result<(), SinkFault>
+        requires going { has_failed self.old ≡ false }
+        ensures same { items self.new ≡ items self.old }
+        ensures told { OnOk result (lines self.new ≡ with_tidy restart (lines self.old)) }
+        ensures untold { OnErr result (lines self.new ≡ lines self.old) }
+        ensures torn { OnFailed result (torn_tidy self.new restart) }
+        ensures faults { SinkFaultsAs result (faults self.old) (faults self.new) }
+        ensures failed { HasFailedAs result (has_failed self.old) (has_failed self.new) }
+        ensures frame { keeps_else self.old self.new };
+
+    ghost are_items: { (a : Self) → AreItemsOf (lines a) (items a) };
+
+    ghost gains_items: { (a b : Self) → keeps a b → GainsItems (lines a) (lines b) };
+
     ghost keeps_itself: { (a : Self) → keeps a a };
 
     ghost keeps_on: { (a b c : Self) → keeps a b → keeps b c → keeps a c };
+
+    ghost items_keep_else: { (a b : Self) → keeps a b → keeps_else a b };
+
+    ghost keeps_else_on: { (a b c : Self) → keeps_else a b → keeps_else b c → keeps_else a c };
 }
