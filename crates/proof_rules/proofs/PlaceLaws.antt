@@ -13,7 +13,7 @@ use Rattle.std.specs.Ordering.{eq_by_cmp}
 use Rattle.std.proofs.lemmas.List.{get_or-set_same, get_or-set_other, get_or_past}
 use Rattle.std.specs.FinMap as map
 use Rattle.cx_semantics.proofs.MapEntries.{look, get-from_entries}
-use Rattle.proof_rules.specs.Places.{entries_from, entries_of}
+use Rattle.proof_rules.specs.Places.{entries_from, entries_of, IsTakenOut}
 
 pub is_eq-same : (n : ℕ) → is_eq (nat_cmp n n) ≡ true
 is_eq-same n = unsigned_tied n n ∙ eq-eqb n n refl
@@ -131,3 +131,12 @@ keys-answer n es ids h xs =
 -- what a table of places, and of entries after them, answers
 pub get-places : {V : Type 0} (q : ℕ) (xs : List (Option V)) (es : List (ℕ × V)) → map.get {R = nat_cmp} (map.from_entries (entries_of xs ++ es)) q ≡ option_or (get_or xs q None) (look q es)
 get-places q xs es = get-from_entries (entries_of xs ++ es) q ∙ look-places q xs es
+
+-- nothing is to be taken out of no entries
+pub nothing_to_take : {V : Type 0} (k : ℕ) (es : List (ℕ × V)) → length es ≡ 0 → IsTakenOut k es es
+nothing_to_take {V} k [] h = λ q. at (is_eq (nat_cmp k q))
+  where
+    at : (b : Bool) → ◌≡◌ {A = Option V} None (cond b None None)
+    at true = refl
+    at false = refl
+nothing_to_take k (e ∷ es) h = absurd (omega (arith, h))

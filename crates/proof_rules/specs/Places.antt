@@ -1,8 +1,9 @@
 -- Small ids, as places of a list.
-use Rattle.std.specs.Prelude.{◌≡◌, ◌<◌, ℕ, zero, suc, List, [], ◌∷◌, ◌++◌, Option, None, Some, length, replicate, take}
+use Rattle.std.specs.Prelude.{◌≡◌, ◌<◌, cond, ℕ, zero, suc, List, [], ◌∷◌, ◌++◌, Option, None, Some, length, replicate, take}
 use Rattle.std.specs.Int.{bit_at}
 use Rattle.std.specs.List.{list_any}
-use Rattle.std.specs.Ordering.{nat_cmp, eq_by_cmp}
+use Rattle.std.specs.Map.{lookup}
+use Rattle.std.specs.Ordering.{nat_cmp, is_eq, eq_by_cmp}
 use Rattle.std.specs.FinMap as map
 
 -- what is in the places, each by its number, counted from n on; an empty place has no entry
@@ -41,6 +42,14 @@ held_in taken places = held_from 0 taken places
 -- a list of all places of a page, or none
 abbrev pub HasAllOrNone : {V : Type 0} → List V → Type 0
 HasAllOrNone places = 0 < length places → length places ≡ 64
+
+-- what entries have under an id, if they have something
+abbrev pub value_under : {V : Type 0} → ℕ → List (ℕ × V) → Option V
+value_under id entries = lookup (λ k. is_eq (nat_cmp id k)) entries
+
+-- the new entries have nothing under this id, and under each other one what the old ones have
+abbrev pub IsTakenOut : {V : Type 0} → ℕ → List (ℕ × V) → List (ℕ × V) → Type 0
+IsTakenOut id old new = (q : ℕ) → value_under q new ≡ cond (is_eq (nat_cmp id q)) None (value_under q old)
 
 -- an id is in the list exactly where it has a value
 abbrev pub HasKeys : {V : Type 0} → map.FinMap nat_cmp V → List ℕ → Type 0

@@ -2,7 +2,7 @@
 ghost use Rattle.std.specs.Prelude.{◌≡◌, ◌<◌, ◌≤◌, false, OnOk, OnErr, IfOk, MatchOption, None, Some, length, get_or, set};
 ghost use Rattle.std.specs.FinMap as map;
 ghost use Rattle.std.specs.Map.{keys_of};
-ghost use Rattle.proof_rules.specs.Places.{entries_of, places_of, HasKeys};
+ghost use Rattle.proof_rules.specs.Places.{entries_of, places_of, IsTakenOut, HasKeys};
 
 use crate::page::{Filler, PLACES, Page};
 use std::alloc::{AllocError, Global};
@@ -109,13 +109,34 @@ impl<V: Drop + Filler> IdMap<V> {
     }
 
     /// Takes the value of this id out; where it has none nothing changes.
+    // On the path of each id that is moved, where its value was looked up just before.
+    #[inline(always)]
     pub fn remove(&mut self, id: u64)
         ensures { self.new ≡ map.remove self.old id }
     {
         clear_place(&mut self.near, id);
         make_idle(&mut self.near, &mut self.idle, id);
-        self.far.remove(&id);
+        clear_far(&mut self.far, id);
     }
+}
+
+/// Takes out what the ordered map has under this id, if it has something. Mostly the map is empty.
+#[inline(always)]
+fn clear_far<V: Drop>(far: &mut BTreeMap<u64, V>, id: u64)
+    ensures { IsTakenOut id far.old.entries far.new.entries }
+{
+    if !far.is_empty() {
+        remove_far(far, id);
+    }
+}
+
+/// Takes out what the ordered map has under this id, if it has something.
+// Ids that have a place are not to pay for what this call keeps on the stack.
+#[inline(never)]
+fn remove_far<V: Drop>(far: &mut BTreeMap<u64, V>, id: u64)
+    ensures { IsTakenOut id far.old.entries far.new.entries }
+{
+    far.remove(&id);
 }
 
 /// Whether an id has a place, or may get one once this many values were put in.
@@ -138,6 +159,7 @@ fn in_place<V: Drop + Filler>(near: &[Page<V>], id: u64) -> Option<&V>
 }
 
 /// Puts a value in the place of this id. Without memory nothing changes.
+#[inline(always)]
 fn put_in_place<V: Drop + Filler>(
     near: &mut Vec<Page<V>>,
     id: u64,
@@ -151,6 +173,7 @@ fn put_in_place<V: Drop + Filler>(
 }
 
 /// Empties the place of this id, if there is one.
+#[inline(always)]
 fn clear_place<V: Drop + Filler>(near: &mut Vec<Page<V>>, id: u64)
     ensures { places_of near.new.items ≡ set (places_of near.old.items) id None }
 {

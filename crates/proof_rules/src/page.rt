@@ -63,6 +63,7 @@ impl<V: Drop + Filler> Page<V> {
     }
 
     /// Whether this place holds a value.
+    #[inline(always)]
     fn holds(&self, place: usize) -> bool
         requires { place < 64 }
         ensures { result ≡ is_some (get_or self.now place None) }
@@ -71,6 +72,7 @@ impl<V: Drop + Filler> Page<V> {
     }
 
     /// The value in this place.
+    #[inline(always)]
     pub(crate) fn get(&self, place: usize) -> Option<&V>
         ensures { MatchOption result (get_or self.now place None ≡ None) (λ value. get_or self.now place None ≡ Some value.now) }
     {
@@ -82,6 +84,7 @@ impl<V: Drop + Filler> Page<V> {
     }
 
     /// Puts a value in this place. Without memory nothing changes.
+    #[inline(always)]
     pub(crate) fn put(&mut self, place: usize, value: V) -> Result<(), AllocError>
         requires { place < 64 }
         ensures ok { OnOk result (all_places self.new ≡ set (all_places self.old) place (Some value)) }
@@ -94,6 +97,7 @@ impl<V: Drop + Filler> Page<V> {
     }
 
     /// Empties this place.
+    #[inline(always)]
     pub(crate) fn clear(&mut self, place: usize)
         requires { place < 64 }
         ensures { all_places self.new ≡ set (all_places self.old) place None }
@@ -136,6 +140,7 @@ impl<V: Drop + Filler> Page<V> {
 
 /// Makes the list of places where there is none. Without memory nothing changes.
 #[tactic(auto, using(crate::proofs::PageLaws::places_made))]
+#[inline(always)]
 fn make_places<V: Drop + Filler>(places: &mut Vec<V>, taken: u64) -> Result<(), AllocError>
     requires full { HasAllOrNone places.old.items }
     requires none { length places.old.items ≡ 0 → taken ≡ 0 }
@@ -150,6 +155,7 @@ fn make_places<V: Drop + Filler>(places: &mut Vec<V>, taken: u64) -> Result<(), 
 }
 
 /// The places of a page, none of which holds a value.
+#[inline(never)]
 fn filled_places<V: Drop + Filler>(alloc: Global) -> Result<Vec<V>, AllocError>
     ensures { IfOk result (λ places. length places.items ≡ 64) }
 {

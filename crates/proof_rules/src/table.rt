@@ -36,8 +36,23 @@ impl<'f> Model for LiveTable<'f> {
     ghost view = { λ a. map.from_entries (entries_of a.first ++ map.entries a.lists) };
 }
 
-/// A list of the formula under this id is copied, if there is one, and joins the others.
+/// A list of the formula under this id is copied, if there is one, and joins the others. Mostly there is none.
+#[inline(always)]
 fn copy_first(first: &mut FirstLists, lists: &mut KeptLists, id: u64) -> Result<(), AllocError>
+    ensures same { behind first.new lists.new ≡ behind first.old lists.old }
+    ensures none { OnOk result (get_or first.new id None ≡ None) }
+    ensures fewer { (q : ℕ) → get_or first.old q None ≡ None → get_or first.new q None ≡ None }
+{
+    if first.has(id) {
+        copy_list(first, lists, id)
+    } else {
+        Ok(())
+    }
+}
+
+/// A list of the formula under this id is copied, if there is one, and joins the others.
+#[inline(never)]
+fn copy_list(first: &mut FirstLists, lists: &mut KeptLists, id: u64) -> Result<(), AllocError>
     ensures same { behind first.new lists.new ≡ behind first.old lists.old }
     ensures none { OnOk result (get_or first.new id None ≡ None) }
     ensures fewer { (q : ℕ) → get_or first.old q None ≡ None → get_or first.new q None ≡ None }

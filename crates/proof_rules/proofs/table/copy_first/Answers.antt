@@ -1,8 +1,9 @@
-use Rattle.std.proofs.Common.{◌∙◌}
-use Rattle.proof_rules.specs.FirstLists.{behind}
-use Rattle.proof_rules.proofs.TableLaws.{put_again}
+use Rattle.std.proofs.Common.{◌≡◌, ◌∙◌, refl, sym, false, true≢false, Option, None, Some, is_some, get_or}
 use Rattle.proof_rules.proofs.table.copy_first.Goals as goal
 
-pub returns-in_ok-insert-clause-same : goal.returns-in_ok-insert-clause-same
-returns-in_ok-insert-clause-same c =
-    (λ i. behind (c.clear.ensures i) (c.in_ok-insert.ensures.ok i)) ∙ put_again c.args.first.now c.args.lists.now c.args.id c.in-Some.lits.now c.in-Some.ensures
+nothing : {V : Type 0} (o : Option V) → is_some o ≡ false → o ≡ None
+nothing None e = refl
+nothing (Some v) e = absurd (true≢false e)
+
+pub returns-else-has-clause-none : goal.returns-else-has-clause-none
+returns-else-has-clause-none c = nothing (get_or c.args.first.now c.args.id None) (sym c.has.ensures ∙ c.if-has.false)
