@@ -11,7 +11,7 @@ use Rattle.cx_texts.proofs.Remaining.{behind, after_word, remaining, remaining-m
 use Rattle.cx_base.proofs.Elements.{all_append}
 use Rattle.step_text.specs.declared.source.TextRefusal.{TextRefusal}
 use Rattle.step_text.specs.declared.source.TextRefusal.TheVariants.{BadToken, Unterminated, TooBig, TooLong, Memory, Failed}
-use Rattle.step_text.specs.Taking.{AreSmall, Takes, IsFit, HeadFails, MayGoOn, RefusedIn}
+use Rattle.step_text.specs.Taking.{AreSmall, Takes, fields_of_pair, fields_of_pairs, IsFit, HeadFails, MayGoOn, RefusedIn}
 
 words-append : (a b : List Placed) → words (a ++ b) ≡ words a ++ words b
 words-append a b = map-append _ a b
@@ -169,13 +169,6 @@ integers_refused zs size r a b t h ks = refused_then (map integer zs) ((some_int
 
 -- ---- pairs
 
-abbrev pub fields_of_pair : IdMove → List Field
-fields_of_pair m = id m.from ∷ id m.to ∷ []
-
--- the ids of some pairs
-abbrev pub fields_of_pairs : List IdMove → List Field
-fields_of_pairs ms = flat_map fields_of_pair ms
-
 spelled_pairs : (ms : List IdMove) → flat_map spelled (fields_of_pairs ms) ≡ map number (flat_map both_ids ms)
 spelled_pairs [] = refl
 spelled_pairs (m ∷ ms) = ap (λ ws. number (pos m.from) ∷ number (pos m.to) ∷ ws) (spelled_pairs ms)
@@ -191,6 +184,10 @@ pub one_more_pair : (ms : List IdMove) (m : IdMove) (a b c d : List Placed) → 
 one_more_pair ms m a b c d x y z =
     subst (λ fs. Takes fs a d) (sym (flat_map-append fields_of_pair ms (m ∷ [])))
     (takes_append (fields_of_pairs ms) (fields_of_pair m) a b d x (takes_append (id m.from ∷ []) (id m.to ∷ []) b c d y z))
+
+pub more_pairs : (ms more all : List IdMove) (a b c : List Placed) → all ≡ ms ++ more → Takes (fields_of_pairs ms) a b → Takes (fields_of_pairs more) b c → Takes (fields_of_pairs all) a c
+more_pairs ms more all a b c e x y =
+    subst (λ fs. Takes fs a c) (sym (ap fields_of_pairs e ∙ flat_map-append fields_of_pair ms more)) (takes_append (fields_of_pairs ms) (fields_of_pairs more) a b c x y)
 
 -- a list of ids refuses the words that a list of pairs does
 pair_refuses : (w : Word) → move some_ids w ≡ refuses → move some_pairs w ≡ refuses

@@ -1,9 +1,10 @@
 -- Words that are integers of a few digits.
 use Rattle.std.specs.Prelude.{◌≡◌, ◌<◌, ◌≤◌, ◌+◌, ℤ, nat_abs, Bool, true, false, List, ℕ, [], ◌∷◌, map, Some, length, take, drop, slice_index}
+use Rattle.cx_base.specs.declared.id_moves.IdMove.{IdMove}
 use Rattle.cx_texts.specs.Tokens.{Token, is_blank, tokens_within, NoBlank}
 use Rattle.cx_texts.specs.Words.{Placed, integer, number, word_of, placed_words}
 use Rattle.cx_texts.specs.Grammar.{end, integer as int}
-use Rattle.step_text.specs.Taking.{Takes}
+use Rattle.step_text.specs.Taking.{Takes, fields_of_pairs}
 use Rattle.step_text.specs.Seen.{limit}
 use Rattle.step_text.specs.declared.short_integer.ShortInteger.{ShortInteger}
 
@@ -39,3 +40,9 @@ abbrev pub TakesFrom : List ℕ → ℕ → List ℤ → Bool → ℕ → Type 0
 TakesFrom text at more ended next =
     (next ≤ length text) × (next < length text → is_blank (slice_index text next) ≡ false)
     × ((from : ℕ) → TakesShorts (placed_words (tokens_within (from + at) (drop at text))) more ended (placed_words (tokens_within (from + next) (drop next text))))
+
+-- pairs that were taken from the tokens that begin at a place of a text, wherever the text is
+abbrev pub TakesPairs : List ℕ → ℕ → List IdMove → ℕ → Type 0
+TakesPairs text at moves next =
+    (next ≤ length text) × (next < length text → is_blank (slice_index text next) ≡ false)
+    × ((from : ℕ) → Takes (fields_of_pairs moves) (placed_words (tokens_within (from + at) (drop at text))) (placed_words (tokens_within (from + next) (drop next text))))

@@ -2,7 +2,8 @@
 use Rattle.std.specs.Prelude.{◌≡◌, ℕ, List, [], ◌∷◌, ◌++◌, flat_map, ⊤, Result, MatchResult, Option, MatchOption}
 use Rattle.std.specs.List.{AllByRecursion}
 use Rattle.cx_texts.specs.Words.{Placed, words, IsWithin}
-use Rattle.cx_texts.specs.Grammar.{Field, end, spelled, IsProper}
+use Rattle.cx_base.specs.declared.id_moves.IdMove.{IdMove}
+use Rattle.cx_texts.specs.Grammar.{Field, id, end, spelled, IsProper}
 use Rattle.cx_texts.proofs.Shapes.{Kind, Move, closes, stays, opens, refuses, move}
 use Rattle.cx_texts.proofs.Remaining.{after_word, remaining}
 use Rattle.step_text.specs.declared.source.TextRefusal.{TextRefusal}
@@ -20,6 +21,13 @@ pub record Takes (fields : List Field) (placed rest : List Placed) : Type 0 wher
   pub proper : AllByRecursion IsProper fields
   pub spells : flat_map spelled fields ≡ words front
   pub within : AreSmall front
+
+-- the ids of some pairs
+abbrev pub fields_of_pair : IdMove → List Field
+fields_of_pair m = id m.from ∷ id m.to ∷ []
+
+abbrev pub fields_of_pairs : List IdMove → List Field
+fields_of_pairs moves = flat_map fields_of_pair moves
 
 abbrev pub IsFit : Move → Type 0
 IsFit (closes f) = ⊤

@@ -1,12 +1,16 @@
 //! A text's tokens with the next one at hand.
-ghost use Rattle.std.specs.Prelude.{◌≡◌, ◌<◌, ◌≤◌, ◌≤ℤ◌, ◌+◌, ◌^◌, ◌↔◌, IsTrue, MatchOption, IfOk, ℤ, List, ◌++◌, true, false, [], drop, length, slice_index};
+ghost use Rattle.std.specs.Prelude.{◌≡◌, ◌<◌, ◌≤◌, ◌≤ℤ◌, ◌+◌, ◌^◌, ◌↔◌, IsTrue, MatchOption, IfOk, OnOk, ℤ, List, ◌++◌, true, false, [], drop, length, slice_index};
+ghost use Rattle.cx_base.specs.declared.id_moves.IdMove.{IdMove};
 ghost use Rattle.cx_texts.specs.Tokens.{is_blank, tokens, tokens_within};
 ghost use Rattle.cx_texts.specs.Words.{is_digit, placed_words, word_of};
 ghost use Rattle.step_text.specs.Heads.{seen_head, is_letter, is_head_letter, head_place};
 ghost use Rattle.step_text.specs.Short.{TakesNumber, TakesShorts};
+ghost use Rattle.step_text.specs.Taking.{Takes, fields_of_pairs};
 
 use crate::short_integer::{short_integer, take_shorts};
+use crate::short_moves::take_short_moves;
 use crate::token_word::{TokenWord, see};
+use cx_base::IdMove;
 use cx_texts::{begin_behind, begin_of_next, run_len};
 use std::alloc::AllocError;
 use std::marker::Model;
@@ -177,6 +181,14 @@ impl<'a> TokensAhead<'a> {
         let shorts = take_shorts(self.text, self.at, members)?;
         self.at = shorts.at;
         Ok(shorts.ended)
+    }
+
+    /// Takes pairs of ids of a few digits into a list, up to another word.
+    pub fn take_short_moves(&mut self, members: &mut Vec<IdMove>) -> Result<(), AllocError>
+        ensures { OnOk result ((more : List IdMove) × (members.new.items ≡ members.old.items ++ more) × Takes (fields_of_pairs more) (placed_words self.old) (placed_words self.new)) }
+    {
+        self.at = take_short_moves(self.text, self.at, members)?;
+        Ok(())
     }
 
     /// The place of the next token, or the text's length at the end.

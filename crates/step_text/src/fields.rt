@@ -233,6 +233,10 @@ pub fn take_moves(
 {
     let mut members = emptied(room);
     loop {
+        match tokens.take_short_moves(&mut members) {
+            Ok(()) => {}
+            Err(_) => return Err(TextRefusal::Memory),
+        }
         let from = match take_listed_id(tokens, size) {
             Ok(Some(from)) => from,
             Ok(None) => return Ok(MoveList::from_vec(members)),

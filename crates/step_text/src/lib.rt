@@ -7,6 +7,7 @@ mod grammar;
 mod lay_out;
 pub mod pieces;
 mod short_integer;
+mod short_moves;
 mod sink;
 mod slot_reader;
 mod slot_text;
