@@ -9,19 +9,19 @@ one_fewer is = omega arith
 
 pub returns-then-column-columns-clause-passed : goal.returns-then-column-columns-clause-passed
 returns-then-column-columns-clause-passed c =
-    passed_none c.args.lists.now c.args.basics.now c.args.watched.now c.args.line.now.flags c.args.columns c.args.column (length c.args.line.now.flags) c.requires.listed c.if-column-columns.true
+    passed_none c.args.watches.now.lists c.args.basics.now c.args.watches.now.watched.items c.args.watches.now.line.flags c.args.columns c.args.column (length c.args.watches.now.line.flags) c.requires.listed c.if-column-columns.true
 
 pub loop-slot-init : goal.loop-slot-init
-loop-slot-init c = record { fit = c.requires.fit; step_is = c.slots-step.ensures.is; long = refl; listed = c.requires.listed; before = λ r off. off }
+loop-slot-init c = record { woken = record { fit = c.requires.fit; step_is = c.slots-step.ensures.is; long = refl; listed = c.requires.listed; before = λ r off. off }; watched = refl }
 
 pub take_first-requires : goal.take_first-requires
-take_first-requires c = subst (λ n. c.args.column < n) (sym c.loop-slot.invariant.fit.columns_are) c.if-column-columns.false
+take_first-requires c = subst (λ n. c.args.column < n) (sym c.loop-slot.invariant.woken.fit.columns_are) c.if-column-columns.false
 
 pub wake_slot-requires-clause-same : goal.wake_slot-requires-clause-same
-wake_slot-requires-clause-same c = c.requires.same ∙ sym c.loop-slot.invariant.long
+wake_slot-requires-clause-same c = c.requires.same ∙ sym c.loop-slot.invariant.woken.long
 
 pub wake_slot-requires-clause-alike : goal.wake_slot-requires-clause-alike
-wake_slot-requires-clause-alike c = c.requires.alike ∙ sym c.loop-slot.invariant.long
+wake_slot-requires-clause-alike c = rw (c.deref.ensures.value, c.loop-slot.invariant.watched) (c.requires.alike ∙ sym c.loop-slot.invariant.woken.long)
 
 pub wake_slot-requires-clause-some : goal.wake_slot-requires-clause-some
 wake_slot-requires-clause-some c = c.slots-step.ensures.some
@@ -30,18 +30,21 @@ pub wake_slot-requires-clause-few : goal.wake_slot-requires-clause-few
 wake_slot-requires-clause-few c = c.slots-step.ensures.few
 
 pub loop-slot-preserved : goal.loop-slot-preserved
-loop-slot-preserved c =
-    woken_more c.loop-slot.lists c.take_first.new.self c.args.basics.now c.args.watched.now c.args.line.now.flags c.loop-slot.line.flags c.wake_slot.new.line.flags c.args.columns c.args.column
-    (length c.args.line.now.flags) c.slots-step.result c.in-Some.slot c.loop-slot.invariant c.in-Some.ensures c.wake_slot.ensures.wakes c.wake_slot.ensures.long
+loop-slot-preserved c = record {
+  woken =
+      woken_more c.loop-slot.watches.lists c.take_first.new.self c.args.basics.now c.args.watches.now.watched.items c.args.watches.now.line.flags c.loop-slot.watches.line.flags c.wake_slot.new.line.flags c.args.columns c.args.column
+      (length c.args.watches.now.line.flags) c.slots-step.result c.in-Some.slot c.loop-slot.invariant.woken c.in-Some.ensures (rw (c.deref.ensures.value, c.loop-slot.invariant.watched) at c.wake_slot.ensures.wakes) c.wake_slot.ensures.long;
+  watched = c.loop-slot.invariant.watched;
+}
 
 pub loop-slot-smaller : goal.loop-slot-smaller
 loop-slot-smaller c = one_fewer c.in-Some.ensures.fewer
 
-all : (c : In_default) → IsPassedBy c.take_first.new.self c.args.basics.now c.args.watched.now c.args.line.now.flags c.loop-slot.line.flags c.args.columns c.args.column (length c.args.line.now.flags)
+all : (c : In_default) → IsPassedBy c.take_first.new.self c.args.basics.now c.args.watches.now.watched.items c.args.watches.now.line.flags c.loop-slot.watches.line.flags c.args.columns c.args.column (length c.args.watches.now.line.flags)
     × IsFit c.take_first.new.self c.args.columns
 all c =
-    woken_all c.loop-slot.lists c.take_first.new.self c.args.basics.now c.args.watched.now c.args.line.now.flags c.loop-slot.line.flags c.args.columns c.args.column
-    (length c.args.line.now.flags) c.slots-step.result c.loop-slot.invariant c.in_default.ensures
+    woken_all c.loop-slot.watches.lists c.take_first.new.self c.args.basics.now c.args.watches.now.watched.items c.args.watches.now.line.flags c.loop-slot.watches.line.flags c.args.columns c.args.column
+    (length c.args.watches.now.line.flags) c.slots-step.result c.loop-slot.invariant.woken c.in_default.ensures
 
 pub returns-clause-passed : goal.returns-clause-passed
 returns-clause-passed c = (all c).0
@@ -50,4 +53,7 @@ pub returns-clause-fit : goal.returns-clause-fit
 returns-clause-fit c = (all c).1
 
 pub returns-clause-long : goal.returns-clause-long
-returns-clause-long c = c.loop-slot.invariant.long
+returns-clause-long c = c.loop-slot.invariant.woken.long
+
+pub returns-clause-watched : goal.returns-clause-watched
+returns-clause-watched c = c.loop-slot.invariant.watched
