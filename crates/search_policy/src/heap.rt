@@ -2,7 +2,7 @@
 ghost use Rattle.std.specs.Prelude.{◌≡◌, ◌≢◌, ◌<◌, ◌≤◌, ◌+◌, ◌-◌, ℕ, List, length, MatchBool};
 ghost use Rattle.cx_base.specs.declared.literal.TheConstants.{MAX_VARIABLE};
 ghost use Rattle.cx_trail.specs.Sequence.{IsOpenIn, entry_at};
-ghost use Rattle.search_policy.specs.Heaps.{item_at, IsAhead, AreShuffled, IsHeap, IsRising, IsSinking, IsSwapped, AreSameFrom, IsBetterChild, HasOpenOnes};
+ghost use Rattle.search_policy.specs.Heaps.{item_at, IsAhead, AreShuffled, IsHeap, IsRising, IsSinking, IsSwapped, AreSameFrom, IsBetterChild, IsOrder, HasOpenOnes};
 
 use cx_base::Var;
 use cx_trail::Trail;
@@ -113,14 +113,11 @@ fn is_assigned(trail: &Trail, index: u32) -> bool
 
 // Takes assigned variables off the top. How many variables are left in the heap.
 pub(crate) fn settle(scores: &[u32], heap: &mut Heap, count: usize, trail: &Trail) -> usize
-    requires shuffled { AreShuffled (length scores.now) heap.old.cells.items heap.old.places.items }
+    requires order { IsOrder scores.now heap.old.cells.items heap.old.places.items count }
     requires few { length scores.now ≤ MAX_VARIABLE }
     requires variables { length scores.now ≡ trail.now.variables }
-    requires count { count ≤ length scores.now }
-    requires heap { IsHeap scores.now heap.old.cells.items count }
     requires stand { HasOpenOnes (length scores.now) trail.now.entries heap.old.places.items count }
-    ensures shuffled { AreShuffled (length scores.now) heap.new.cells.items heap.new.places.items }
-    ensures heap { IsHeap scores.now heap.new.cells.items result }
+    ensures order { IsOrder scores.now heap.new.cells.items heap.new.places.items result }
     ensures stand { HasOpenOnes (length scores.now) trail.now.entries heap.new.places.items result }
     ensures few { result ≤ count }
     ensures top { 0 < result → IsOpenIn trail.now.entries (item_at heap.new.cells.items 0 + 1) }
@@ -136,14 +133,10 @@ pub(crate) fn settle(scores: &[u32], heap: &mut Heap, count: usize, trail: &Trai
 
 // Puts a variable into the heap, if it is not there. How many are in the heap then.
 fn insert(scores: &[u32], heap: &mut Heap, count: usize, index: u32) -> usize
-    requires shuffled { AreShuffled (length scores.now) heap.old.cells.items heap.old.places.items }
+    requires order { IsOrder scores.now heap.old.cells.items heap.old.places.items count }
     requires few { length scores.now ≤ MAX_VARIABLE }
-    requires count { count ≤ length scores.now }
-    requires heap { IsHeap scores.now heap.old.cells.items count }
     requires index { index < length scores.now }
-    ensures shuffled { AreShuffled (length scores.now) heap.new.cells.items heap.new.places.items }
-    ensures few { result ≤ length scores.now }
-    ensures heap { IsHeap scores.now heap.new.cells.items result }
+    ensures order { IsOrder scores.now heap.new.cells.items heap.new.places.items result }
     ensures stays { (v : ℕ) → v < length scores.now → item_at heap.old.places.items v < count → item_at heap.new.places.items v < result }
     ensures put { item_at heap.new.places.items index < result }
 {
@@ -164,14 +157,10 @@ pub(crate) fn put_back(
     trail: &Trail,
     level: u32,
 ) -> usize
-    requires shuffled { AreShuffled (length scores.now) heap.old.cells.items heap.old.places.items }
+    requires order { IsOrder scores.now heap.old.cells.items heap.old.places.items count }
     requires few { length scores.now ≤ MAX_VARIABLE }
     requires variables { length scores.now ≡ trail.now.variables }
-    requires count { count ≤ length scores.now }
-    requires heap { IsHeap scores.now heap.old.cells.items count }
-    ensures shuffled { AreShuffled (length scores.now) heap.new.cells.items heap.new.places.items }
-    ensures few { result ≤ length scores.now }
-    ensures heap { IsHeap scores.now heap.new.cells.items result }
+    ensures order { IsOrder scores.now heap.new.cells.items heap.new.places.items result }
     ensures stays { (v : ℕ) → v < length scores.now → item_at heap.old.places.items v < count → item_at heap.new.places.items v < result }
     ensures put { (i : ℕ) → i < length trail.now.entries → level < (entry_at trail.now.entries i).level → item_at heap.new.places.items ((entry_at trail.now.entries i).literal.variable - 1) < result }
 {

@@ -1,4 +1,4 @@
-use Rattle.std.proofs.Common.{◌≡◌, sym, ap, ◌∙◌, [], ◌++◌, append-nil, take}
+use Rattle.std.proofs.Common.{sym, ap, ◌∙◌, [], ◌++◌, append-nil, take}
 use Rattle.cx_base.specs.Assumptions.{assumptions_of}
 use Rattle.cx_base.specs.declared.constraint.Constraint.TheVariants as constraint
 use Rattle.search_policy.proofs.AssumingLaws.{one_more_constraint}

@@ -7,7 +7,7 @@ use Rattle.search_policy.proofs.heap.insert.Goals as goal
 
 pub swap-requires : goal.swap-requires
 swap-requires c =
-    let s = c.requires.shuffled in
+    let s = c.requires.order.shuffled in
     let from = get_or_read c.args.heap.now.places.items c.args.index _ (omega (arith, s.place_count, c.requires.index)) c.index.ensures 0 in
     let inside = s.in_cells c.args.index c.requires.index in
     record {
@@ -19,7 +19,7 @@ swap-requires c =
 
 pub sift_up-requires : goal.sift_up-requires
 sift_up-requires c =
-    let s = c.requires.shuffled in
+    let s = c.requires.order.shuffled in
     let from = get_or_read c.args.heap.now.places.items c.args.index _ (omega (arith, s.place_count, c.requires.index)) c.index.ensures 0 in
     let inside = s.in_cells c.args.index c.requires.index in
     record {
@@ -27,13 +27,13 @@ sift_up-requires c =
       few = c.requires.few;
       count = omega (arith, from, inside, c.if-from-count.false);
       start = omega arith;
-      rising = inserted_rises c.args.scores.now c.args.heap.now.cells.items c.swap.new.heap.cells.items c.args.count c.index.result.now c.requires.heap c.if-from-count.false c.swap.ensures.swapped;
+      rising = inserted_rises c.args.scores.now c.args.heap.now.cells.items c.swap.new.heap.cells.items c.args.count c.index.result.now c.requires.order.heap c.if-from-count.false c.swap.ensures.swapped;
     }
 
 pub returns : goal.returns
 returns c =
     let n = length c.args.scores.now in
-    let s = c.requires.shuffled in
+    let s = c.requires.order.shuffled in
     let k = c.args.count in
     let cells = c.args.heap.now.cells.items in
     let places = c.args.heap.now.places.items in
@@ -44,9 +44,7 @@ returns c =
     let inside = s.in_cells c.args.index c.requires.index in
     let after = stays_below n (k + 1) c.swap.new.heap.cells.items c.swap.new.heap.places.items c.sift_up.new.heap.cells.items c.sift_up.new.heap.places.items middle risen.shuffled risen.same in
     record {
-      shuffled = risen.shuffled;
-      few = omega (arith, from, inside, c.if-from-count.false);
-      heap = risen.heap;
+      order = record { shuffled = risen.shuffled; heap = risen.heap; few = omega (arith, from, inside, c.if-from-count.false) };
       stays = λ v h b.
           let p = item_at places v in
           let here : item_at c.swap.new.heap.cells.items p ≡ v = w.others p (λ e. omega arith) (λ e. omega (arith, c.if-from-count.false)) ∙ s.has v h in

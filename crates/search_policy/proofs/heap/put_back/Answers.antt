@@ -14,10 +14,8 @@ insert-left-requires c =
     let low = sound.low (c.back.place - 1) at in
     let high = sound.high (c.back.place - 1) at in
     record {
-      shuffled = i.shuffled;
+      order = i.order;
       few = c.requires.few;
-      count = i.few;
-      heap = i.ordered;
       index = omega (arith, variable, low, high, c.requires.variables);
     }
 
@@ -29,9 +27,7 @@ back-preserved c =
     let places = c.insert-left.new.heap.places.items in
     let variable = c.number-index.ensures.number ∙ c.var.ensures ∙ ap (λ (e : Entry). e.literal.variable) c.entry-in-back.ensures.is in
     record {
-      shuffled = c.insert-left.ensures.shuffled;
-      few = c.insert-left.ensures.few;
-      ordered = c.insert-left.ensures.heap;
+      order = c.insert-left.ensures.order;
       stays = λ v h b. c.insert-left.ensures.stays v h (i.stays v h b);
       inside = omega (arith, i.inside);
       put = λ k low high.
@@ -54,9 +50,7 @@ returns-else-entry-level c =
     let at : c.back.place - 1 < length entries = omega (arith, c.back-test.true, i.inside) in
     let level : (entry_at entries (c.back.place - 1)).level ≤ c.args.level = subst (λ (e : Entry). e.level ≤ c.args.level) c.entry.ensures.is c.if-entry-level.false in
     record {
-      shuffled = i.shuffled;
-      few = i.few;
-      heap = i.ordered;
+      order = i.order;
       stays = i.stays;
       put = λ k high over.
           elim (cases_lt k c.back.place) [
@@ -70,9 +64,7 @@ returns-after-back c =
     let i = c.back.invariant in
     let none = c.back-test.false in
     record {
-      shuffled = i.shuffled;
-      few = i.few;
-      heap = i.ordered;
+      order = i.order;
       stays = i.stays;
       put = λ k high over. i.put k (omega arith) high;
     }

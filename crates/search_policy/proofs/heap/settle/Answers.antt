@@ -7,12 +7,12 @@ use Rattle.search_policy.proofs.ShuffleLaws.{popped_stand}
 use Rattle.search_policy.proofs.heap.settle.Goals as goal
 
 pub index-requires : goal.index-requires
-index-requires c = let i = c.top.invariant in omega (arith, c.top-test.true, i.few, c.requires.count, i.shuffled.cell_count)
+index-requires c = let i = c.top.invariant in omega (arith, c.top-test.true, i.few, c.requires.order.few, i.shuffled.cell_count)
 
 pub is_assigned-requires : goal.is_assigned-requires
 is_assigned-requires c =
     let i = c.top.invariant in
-    let in_cells : 0 < length c.top.heap.cells.items = omega (arith, c.top-test.true, i.few, c.requires.count, i.shuffled.cell_count) in
+    let in_cells : 0 < length c.top.heap.cells.items = omega (arith, c.top-test.true, i.few, c.requires.order.few, i.shuffled.cell_count) in
     let top = get_or_read c.top.heap.cells.items 0 _ in_cells c.index.ensures 0 in
     let inside = i.shuffled.inside 0 (omega (arith, i.shuffled.cell_count)) in
     omega (arith, top, inside, c.requires.variables)
@@ -23,8 +23,8 @@ swap-requires c =
     record {
       shuffled = subst (λ m. AreShuffled m c.top.heap.cells.items c.top.heap.places.items) (sym i.shuffled.cell_count) i.shuffled;
       few = omega (arith, i.shuffled.cell_count, c.requires.few);
-      i = omega (arith, c.top-test.true, i.few, c.requires.count, i.shuffled.cell_count);
-      j = omega (arith, c.top-test.true, i.few, c.requires.count, i.shuffled.cell_count);
+      i = omega (arith, c.top-test.true, i.few, c.requires.order.few, i.shuffled.cell_count);
+      j = omega (arith, c.top-test.true, i.few, c.requires.order.few, i.shuffled.cell_count);
     }
 
 pub sift_down-requires : goal.sift_down-requires
@@ -36,7 +36,7 @@ sift_down-requires c =
     record {
       shuffled = subst (λ m. AreShuffled m c.swap.new.heap.cells.items c.swap.new.heap.places.items) i.shuffled.cell_count c.swap.ensures.shuffled;
       few = c.requires.few;
-      count = omega (arith, i.few, c.requires.count);
+      count = omega (arith, i.few, c.requires.order.few);
       start = omega arith;
       sinking = popped_sinks scores c.top.heap.cells.items c.swap.new.heap.cells.items left (subst (IsHeap scores c.top.heap.cells.items) back i.ordered) c.swap.ensures.swapped;
     }
@@ -48,7 +48,7 @@ top-preserved c =
     let cells = c.top.heap.cells.items in
     let entries = c.args.trail.now.entries in
     let back : c.top.left ≡ left + 1 = omega (arith, c.top-test.true) in
-    let in_cells : 0 < length cells = omega (arith, c.top-test.true, i.few, c.requires.count, i.shuffled.cell_count) in
+    let in_cells : 0 < length cells = omega (arith, c.top-test.true, i.few, c.requires.order.few, i.shuffled.cell_count) in
     let top = get_or_read cells 0 _ in_cells c.index.ensures 0 in
     record {
       shuffled = c.sift_down.ensures.shuffled;
@@ -62,11 +62,10 @@ top-preserved c =
 pub returns-else-is_assigned : goal.returns-else-is_assigned
 returns-else-is_assigned c =
     let i = c.top.invariant in
-    let in_cells : 0 < length c.top.heap.cells.items = omega (arith, c.top-test.true, i.few, c.requires.count, i.shuffled.cell_count) in
+    let in_cells : 0 < length c.top.heap.cells.items = omega (arith, c.top-test.true, i.few, c.requires.order.few, i.shuffled.cell_count) in
     let top = get_or_read c.top.heap.cells.items 0 _ in_cells c.index.ensures 0 in
     record {
-      shuffled = i.shuffled;
-      heap = i.ordered;
+      order = record { shuffled = i.shuffled; heap = i.ordered; few = omega (arith, i.few, c.requires.order.few) };
       stand = i.stand;
       few = i.few;
       top = λ some. subst (λ x. IsOpenIn c.args.trail.now.entries (x + 1)) top c.if-is_assigned.ensures;
@@ -77,8 +76,7 @@ returns-after-top c =
     let i = c.top.invariant in
     let none = c.top-test.false in
     record {
-      shuffled = i.shuffled;
-      heap = i.ordered;
+      order = record { shuffled = i.shuffled; heap = i.ordered; few = omega (arith, i.few, c.requires.order.few) };
       stand = i.stand;
       few = i.few;
       top = λ some. absurd (omega arith);

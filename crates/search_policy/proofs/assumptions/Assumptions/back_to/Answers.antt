@@ -1,4 +1,4 @@
-use Rattle.std.proofs.Common.{◌≡◌, refl, sym, ap, ◌∙◌, min, length, arith}
+use Rattle.std.proofs.Common.{refl, ap, ◌∙◌, min}
 use Rattle.search_policy.proofs.AssumingLaws.{lower_keeps, higher_keeps}
 use Rattle.search_policy.proofs.assumptions.Assumptions.back_to.Goals as goal
 

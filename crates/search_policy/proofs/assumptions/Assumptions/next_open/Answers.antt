@@ -1,7 +1,6 @@
-use Rattle.std.proofs.Common.{◌≡◌, ◌<◌, ◌≤◌, refl, sym, ap, ◌∙◌, subst, List, length, arith}
+use Rattle.std.proofs.Common.{◌≡◌, ◌<◌, ◌≤◌, sym, ◌∙◌, subst, List, length, arith}
 use Rattle.cx_base.specs.Literals.{Literal}
-use Rattle.cx_base.specs.Assumptions.{assumptions_of}
-use Rattle.cx_trail.specs.Sequence.{IsOpenIn, IsTrueIn}
+use Rattle.cx_trail.specs.Sequence.{IsOpenIn}
 use Rattle.search_policy.specs.Assuming.{HaveValues, literal_of}
 use Rattle.search_policy.proofs.AssumingLaws.{all_found, found_first, at_default, more_passed}
 use Rattle.search_policy.proofs.assumptions.Assumptions.next_open.Goals as goal

@@ -1,4 +1,4 @@
-use Rattle.std.proofs.Common.{◌≡◌, refl, sym, subst}
+use Rattle.std.proofs.Common.{refl, sym, subst}
 use Rattle.cx_base.specs.Problem.{AreWithin}
 use Rattle.cx_base.specs.Assumptions.{assumptions_of}
 use Rattle.search_policy.proofs.AssumingLaws.{begun_keeps, assumptions_are_within}

@@ -10,7 +10,7 @@ stays : (c : After-put_back-self-inside) → (v : ℕ) → v < length c.self.ins
 stays c = subst (λ (xs : List ℕ). (v : ℕ) → v < length xs → item_at c.self.inside.heap.places.items v < c.self.inside.count → item_at c.put_back-self-inside.new.heap.places.items v < c.put_back-self-inside.result) c.as_slice.ensures.value c.put_back-self-inside.ensures.stays
 
 long : (c : After-put_back-self-inside) → length c.put_back-self-inside.new.heap.places.items ≡ length c.self.inside.scores.items
-long c = subst (λ (xs : List ℕ). length c.put_back-self-inside.new.heap.places.items ≡ length xs) c.as_slice.ensures.value c.put_back-self-inside.ensures.shuffled.place_count
+long c = subst (λ (xs : List ℕ). length c.put_back-self-inside.new.heap.places.items ≡ length xs) c.as_slice.ensures.value c.put_back-self-inside.ensures.order.shuffled.place_count
 
 stood : (c : After-put_back-self-inside) → AllStand (record { scores = c.self.inside.scores.items; standing = map (λ p. nat_lt p c.self.inside.count) c.self.inside.heap.places.items; weight = c.self.inside.weight }) c.args.trail.now
 stood c = subst (λ (o : OrderState). AllStand o c.args.trail.now) (sym c.self.view_is) c.requires
@@ -34,11 +34,9 @@ put_back-self-inside-requires c =
     let variables = subst (λ (o : OrderState). length o.scores ≡ c.args.trail.now.variables) (sym c.self.view_is) c.requires.variables in
     rw c.as_slice.ensures.value
     (record {
-      shuffled = i.2.shuffled;
+      order = i.2;
       few = i.0;
       variables = variables;
-      count = i.2.few;
-      heap = i.2.heap;
     })
 
 pub invariant_of-self : goal.invariant_of-self
@@ -48,5 +46,5 @@ invariant_of-self c =
     let cells = c.put_back-self-inside.new.heap.cells.items in
     let places = c.put_back-self-inside.new.heap.places.items in
     let order : IsOrder c.self.inside.scores.items cells places c.put_back-self-inside.result =
-    subst (λ (xs : List ℕ). IsOrder xs cells places c.put_back-self-inside.result) c.as_slice.ensures.value (record { shuffled = e.shuffled; heap = e.heap; few = e.few }) in
+    subst (λ (xs : List ℕ). IsOrder xs cells places c.put_back-self-inside.result) c.as_slice.ensures.value e.order in
     (i.0, i.1, order, i.3)

@@ -24,8 +24,8 @@ returns-clause-picks c =
     let places = c.settle-count.new.heap.places.items in
     let entries = c.args.trail.now.entries in
     let count = c.settle-count.result in
-    let shuffled = subst (λ (xs : List ℕ). AreShuffled (length xs) cells places) same e.shuffled in
-    let heap = subst (λ (xs : List ℕ). IsHeap xs cells count) same e.heap in
+    let shuffled = subst (λ (xs : List ℕ). AreShuffled (length xs) cells places) same e.order.shuffled in
+    let heap = subst (λ (xs : List ℕ). IsHeap xs cells count) same e.order.heap in
     let stand = subst (λ (xs : List ℕ). HasOpenOnes (length xs) entries places count) same e.stand in
     subst (λ (o : OrderState). Picks (length o.scores) o.scores entries c.if-count-eq0.result) c.self.view_is (elim c.if-count-eq0.branch [
       | then-count-eq0 w ↦ subst (λ r. Picks (length scores) scores entries r) (sym w.result-is) (picks_none (length scores) entries places count w.if-count-eq0.true stand)
@@ -44,11 +44,11 @@ returns-clause-stand c =
     let e = c.settle-count.ensures in
     let same = c.as_slice.ensures.value in
     stand_of _ _ _ _ _ a.variables
-    (subst (λ (xs : List ℕ). length c.settle-count.new.heap.places.items ≡ length xs) same e.shuffled.place_count)
+    (subst (λ (xs : List ℕ). length c.settle-count.new.heap.places.items ≡ length xs) same e.order.shuffled.place_count)
     (subst (λ (xs : List ℕ). HasOpenOnes (length xs) c.args.trail.now.entries c.settle-count.new.heap.places.items c.settle-count.result) same e.stand)
 
-pub settle-count-requires-clause-shuffled : goal.settle-count-requires-clause-shuffled
-settle-count-requires-clause-shuffled c = rw c.as_slice.ensures.value c.self.invariant.2.shuffled
+pub settle-count-requires-clause-order : goal.settle-count-requires-clause-order
+settle-count-requires-clause-order c = rw c.as_slice.ensures.value c.self.invariant.2
 
 pub settle-count-requires-clause-few : goal.settle-count-requires-clause-few
 settle-count-requires-clause-few c = rw c.as_slice.ensures.value c.self.invariant.0
@@ -56,20 +56,13 @@ settle-count-requires-clause-few c = rw c.as_slice.ensures.value c.self.invarian
 pub settle-count-requires-clause-variables : goal.settle-count-requires-clause-variables
 settle-count-requires-clause-variables c = rw c.as_slice.ensures.value (subst (λ (o : OrderState). length o.scores ≡ c.args.trail.now.variables) (sym c.self.view_is) c.requires.variables)
 
-pub settle-count-requires-clause-count : goal.settle-count-requires-clause-count
-settle-count-requires-clause-count c = rw c.as_slice.ensures.value c.self.invariant.2.few
-
-pub settle-count-requires-clause-heap : goal.settle-count-requires-clause-heap
-settle-count-requires-clause-heap c = rw c.as_slice.ensures.value c.self.invariant.2.heap
-
 pub invariant_of-self : goal.invariant_of-self
 invariant_of-self c =
     let i = c.self.invariant in
     let e = c.settle-count.ensures in
     let cells = c.settle-count.new.heap.cells.items in
     let places = c.settle-count.new.heap.places.items in
-    let few : c.settle-count.result ≤ length c.as_slice.result.now = omega (arith, ap length c.as_slice.ensures.value, e.few, i.2.few) in
-    let order = subst (λ (xs : List ℕ). IsOrder xs cells places c.settle-count.result) c.as_slice.ensures.value (record { shuffled = e.shuffled; heap = e.heap; few = few }) in
+    let order = subst (λ (xs : List ℕ). IsOrder xs cells places c.settle-count.result) c.as_slice.ensures.value e.order in
     (i.0, i.1, order, i.3)
 
 pub new-requires : goal.new-requires
@@ -78,6 +71,6 @@ new-requires c =
     let none = c.if-count-eq0.false in
     let same = ap length c.as_slice.ensures.value in
     let inside : 0 < length c.as_slice.result.now = omega (arith, same, e.few, c.self.invariant.2.few) in
-    let top = get_or_read c.settle-count.new.heap.cells.items 0 _ (omega (arith, e.shuffled.cell_count)) c.index.ensures 0 in
-    let low = e.shuffled.inside 0 inside in
+    let top = get_or_read c.settle-count.new.heap.cells.items 0 _ (omega (arith, e.order.shuffled.cell_count)) c.index.ensures 0 in
+    let low = e.order.shuffled.inside 0 inside in
     record { low = omega arith; high = omega (arith, top, low, same, c.self.invariant.0) }
