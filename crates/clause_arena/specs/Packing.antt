@@ -1,11 +1,16 @@
 -- The live ones of the first clauses, one after another.
-use Rattle.std.specs.Prelude.{ℕ, ◌≡◌, ◌<◌, ◌≤◌, List, length, ◌∷◌, get_or, take, drop, Option, None, IsSome}
+use Rattle.std.specs.Prelude.{ℕ, ◌≡◌, ◌<◌, ◌≤◌, List, length, ◌∷◌, get_or, take, drop, Option, None, IsSome, Vec, vec_len, vec_capacity}
 use Rattle.cx_base.specs.Literals.{Literal}
 use Rattle.cx_base.specs.declared.moved.Move.{Move}
 use Rattle.cx_base.specs.Moved.{move_at}
 use Rattle.clause_arena.specs.declared.head.Head.{Head}
 use Rattle.clause_arena.specs.Clauses.{Stored}
 use Rattle.clause_arena.specs.Heads.{clauses_from, RiseTo, AreHeads}
+
+-- the vector is no longer than it was, and has the room that it had
+pub record IsCut {X Z : Type 0} (old new : Vec X Z) : Type 0 where
+  pub fewer : vec_len new ≤ vec_len old
+  pub room : vec_capacity new ≡ vec_capacity old
 
 abbrev pub kept_at : List (Option Stored) → ℕ → Option Stored
 kept_at clauses r = get_or clauses r None

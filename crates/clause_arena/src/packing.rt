@@ -1,7 +1,7 @@
 //! Closing the gaps that removed clauses leave.
-ghost use Rattle.std.specs.Prelude.{◌≡◌, ◌≤◌, [], length, vec_len, vec_capacity};
+ghost use Rattle.std.specs.Prelude.{◌≡◌, ◌≤◌, [], length, vec_capacity};
 ghost use Rattle.clause_arena.specs.Heads.{clauses_from, AreHeads};
-ghost use Rattle.clause_arena.specs.Packing.{IsPacked};
+ghost use Rattle.clause_arena.specs.Packing.{IsCut, IsPacked};
 
 use crate::head::Head;
 use cx_base::{ClauseRef, Lit, Move};
@@ -18,11 +18,9 @@ pub(crate) fn pack(
     requires room { length heads.old.items ≤ vec_capacity moves.old }
     ensures heads { AreHeads lits.new.items ends.new.items heads.new.items }
     ensures packed { IsPacked (clauses_from 0 lits.old.items ends.old.items heads.old.items) (length heads.old.items) (clauses_from 0 lits.new.items ends.new.items heads.new.items) moves.new.items }
-    ensures fewer_heads { vec_len heads.new ≤ vec_len heads.old }
-    ensures fewer_lits { vec_len lits.new ≤ vec_len lits.old }
     ensures same_ends { vec_capacity ends.new ≡ vec_capacity ends.old }
-    ensures same_heads { vec_capacity heads.new ≡ vec_capacity heads.old }
-    ensures same_lits { vec_capacity lits.new ≡ vec_capacity lits.old }
+    ensures cut_heads { IsCut heads.old heads.new }
+    ensures cut_lits { IsCut lits.old lits.new }
 {
     let mut start = 0;
     let mut used = 0;

@@ -65,3 +65,13 @@ loop-place-preserved c =
 
 pub loop-place-init : goal.loop-place-init
 loop-place-init c = search rules
+
+pub returns-clause-cut_heads : goal.returns-clause-cut_heads
+returns-clause-cut_heads c =
+    let i = c.loop-place.invariant in
+    record { fewer = omega (arith, c.truncate-2.ensures.len, i.packed.many_heads, c.args.heads.now.ok.0, c.loop-place.heads.ok.0); room = c.truncate-2.ensures.capacity ∙ i.same_heads }
+
+pub returns-clause-cut_lits : goal.returns-clause-cut_lits
+returns-clause-cut_lits c =
+    let i = c.loop-place.invariant in
+    record { fewer = omega (arith, c.truncate-3.ensures.len, i.packed.many_lits, c.args.lits.now.ok.0, c.loop-place.lits.ok.0); room = c.truncate-3.ensures.capacity ∙ i.same_lits }
