@@ -1,11 +1,10 @@
 //! Propagation up to the end of the trail or a conflict.
 ghost use Rattle.std.specs.Prelude.{◌≡◌, ◌≢◌, ◌<◌, ◌≤◌, ◌+◌, ◌*◌, ℕ, [], List, length, vec_capacity};
 ghost use Rattle.clause_arena.specs.Clauses.{IsLive};
-ghost use Rattle.watch_lists.specs.Watching.{AreGuarded, IsAttached, IsBehind, Propagates};
-ghost use Rattle.watch_lists.specs.Walking.{IsRest};
+ghost use Rattle.watch_lists.specs.Watching.{IsAttached, Propagates};
+ghost use Rattle.watch_lists.specs.Walking.{IsLooked};
 ghost use Rattle.watch_lists.specs.Events.{Happens};
 
-use crate::ahead::Ahead;
 use crate::lists::NodeLists;
 use crate::nodes::Nodes;
 use crate::walk::walk_list;
@@ -24,21 +23,16 @@ pub enum Event {
 
 // Reads what the walk for the literal at a place of the trail will begin with, if there is one.
 #[inline(always)]
-fn read_next(
-    ahead: &mut Ahead,
-    attached: &[bool],
-    lists: &NodeLists,
-    arena: &Arena,
-    trail: &Trail,
-    place: usize,
-)
-    requires live { (r : ℕ) → IsAttached attached.now r → IsLive arena.now r }
-    requires pairs { length lists.now.held ≡ 2 * length attached.now }
+fn read_next(nodes: &mut Nodes, lists: &NodeLists, arena: &Arena, trail: &Trail, place: usize)
+    requires live { (r : ℕ) → IsAttached nodes.old.attached.items r → IsLive arena.now r }
+    requires pairs { length lists.now.held ≡ 2 * length nodes.old.attached.items }
     requires size { length lists.now.lists ≡ 2 * trail.now.variables + 2 }
+    ensures { nodes.new.attached.items ≡ nodes.old.attached.items }
 {
     if place < trail.len() {
         let falsified = trail.entry(place).literal.negate();
-        ahead.read(attached, lists, arena, lists.front(falsified).current);
+        let first = lists.front(falsified).current;
+        nodes.ahead.read(&nodes.attached, lists, arena, first);
     }
 }
 
@@ -50,15 +44,11 @@ pub(crate) fn propagate(
     arena: &Arena,
     trail: &mut Trail,
 ) -> Event
-    requires rest { IsRest trail.old.variables lists.old.held nodes.old.attached.items lists.old.lists arena.now }
+    requires looked { IsLooked trail.old.variables looked.old.items lists.old.held nodes.old.attached.items lists.old.lists arena.now trail.old }
     requires top { length looked.old.items ≡ trail.old.level + 1 }
-    requires behind { IsBehind looked.old.items trail.old }
-    requires guarded { AreGuarded looked.old.items lists.old.held nodes.old.attached.items trail.old.entries }
     ensures attached { nodes.new.attached.items ≡ nodes.old.attached.items }
     ensures top { length looked.new.items ≡ length looked.old.items }
-    ensures rest { IsRest trail.old.variables lists.new.held nodes.old.attached.items lists.new.lists arena.now }
-    ensures behind { IsBehind looked.new.items trail.new }
-    ensures guarded { AreGuarded looked.new.items lists.new.held nodes.old.attached.items trail.new.entries }
+    ensures looked { IsLooked trail.old.variables looked.new.items lists.new.held nodes.old.attached.items lists.new.lists arena.now trail.new }
     ensures propagates { Propagates nodes.old.attached.items arena.now trail.old trail.new }
     ensures room { vec_capacity looked.new ≡ vec_capacity looked.old }
     ensures happens { Happens nodes.old.attached.items arena.now trail.new result }
@@ -67,14 +57,7 @@ pub(crate) fn propagate(
     'ahead: while looked[top] < trail.len() {
         let head = looked[top];
         let entry = trail.entry(head);
-        read_next(
-            &mut nodes.ahead,
-            &nodes.attached,
-            lists,
-            arena,
-            trail,
-            head + 1,
-        );
+        read_next(nodes, lists, arena, trail, head + 1);
         match walk_list(nodes, lists, arena, trail, entry.literal.negate()) {
             Some(reference) => return Event::Conflict(reference),
             None => {

@@ -2,7 +2,7 @@
 ghost use Rattle.std.specs.Prelude.{◌≡◌, ◌<◌, ◌≤◌, ◌+◌, ◌*◌, ◌^◌, ℕ, [], length, take};
 ghost use Rattle.watch_lists.specs.Lists.{list_at};
 ghost use Rattle.watch_lists.specs.Walking.{AreListed};
-ghost use Rattle.watch_lists.specs.Detaching.{HaveLists, HaveAttached};
+ghost use Rattle.watch_lists.specs.Detaching.{AreLinked, HaveAttached, HaveLists};
 
 use crate::lists::NodeLists;
 use crate::nodes::Nodes;
@@ -13,10 +13,8 @@ fn link_one(nodes: &Nodes, lists: &mut NodeLists, place: u32)
     requires small { 2 * place + 1 < 2 ^ 32 }
     requires pairs { length lists.old.held ≡ 2 * length nodes.now.attached.items }
     requires codes { HaveLists lists.old.held nodes.now.attached.items (length lists.old.lists) }
-    requires listed { AreListed lists.old.held (take place nodes.now.attached.items) lists.old.lists }
-    requires alone { HaveAttached (take place nodes.now.attached.items) lists.old.lists }
-    ensures listed { AreListed lists.old.held (take (place + 1) nodes.now.attached.items) lists.new.lists }
-    ensures alone { HaveAttached (take (place + 1) nodes.now.attached.items) lists.new.lists }
+    requires linked { AreLinked lists.old.held (take place nodes.now.attached.items) lists.old.lists }
+    ensures linked { AreLinked lists.old.held (take (place + 1) nodes.now.attached.items) lists.new.lists }
     ensures size { length lists.new.lists ≡ length lists.old.lists }
     ensures held { lists.new.held ≡ lists.old.held }
 {

@@ -14,16 +14,10 @@ use Rattle.cx_base.proofs.LiteralLaws.{negate-negate}
 use Rattle.watch_lists.proofs.event.propagate.Goals.{At-ahead, After-index-head}
 use Rattle.watch_lists.proofs.event.propagate.Goals as goal
 
-pub returns-in-Some-clause-guarded : goal.returns-in-Some-clause-guarded
-returns-in-Some-clause-guarded c =
-    let i = c.ahead.invariant in
-    let g = goes_same _ _ c.args.nodes.now.attached.items _ _ _ _ i.attached c.in-Some.ensures.goes in
-    g.guarded c.ahead.looked.items i.behind i.guarded
-
 pub returns-in-Some-clause-propagates : goal.returns-in-Some-clause-propagates
 returns-in-Some-clause-propagates c =
     let i = c.ahead.invariant in
-    let g = goes_same _ _ c.args.nodes.now.attached.items _ _ _ _ i.attached c.in-Some.ensures.goes in
+    let g = goes_same _ _ c.args.nodes.now.attached.items _ _ _ _ (c.read_next.ensures ∙ i.attached) c.in-Some.ensures.goes in
     propagates_both _ _ _ c.ahead.trail _ i.propagates g.propagates
 
 pub ahead-preserved : goal.ahead-preserved
@@ -34,7 +28,7 @@ ahead-preserved c =
     let looked = c.ahead.looked.items in
     let top = c.level-top.result in
     let head = c.index-head.result.now in
-    let g = goes_same _ _ attached _ _ _ _ i.attached c.in-None.ensures.goes in
+    let g = goes_same _ _ attached _ _ _ _ (c.read_next.ensures ∙ i.attached) c.in-None.ensures.goes in
     let p = g.propagates in
     let et : top ≡ u.level = c.level-top.ensures.level ∙ sym i.propagates.level ∙ sym p.level in
     let el : length looked ≡ top + 1 = omega (arith, i.top, c.requires.top, c.level-top.ensures.level) in
@@ -44,16 +38,18 @@ ahead-preserved c =
     let in_u : head < length u.entries = omega (arith, ap length p.grown, length-append c.ahead.trail.entries p.more) in
     let same : entry_at u.entries head ≡ entry_at c.ahead.trail.entries head = ap (λ (xs : List Entry). entry_at xs head) p.grown ∙ entry_kept c.ahead.trail.entries p.more head in_t in
     let ea : c.negate.result ≡ negate (entry_at u.entries head).literal = c.negate.ensures ∙ ap (λ (x : Entry). negate x.literal) (c.entry-entry.ensures.is ∙ sym same) in
-    let passed = subst (λ (b : List Bool). AllPassed c.walk_list.new.lists.held b u c.negate.result) i.attached c.in-None.ensures.walked in
+    let passed = subst (λ (b : List Bool). AllPassed c.walk_list.new.lists.held b u c.negate.result) (c.read_next.ensures ∙ i.attached) c.in-None.ensures.walked in
     let ok = c.len-count.ensures.sound in
-    let b = behind_further looked attached c.args.arena.now c.ahead.trail u p i.behind in
+    let b = behind_further looked attached c.args.arena.now c.ahead.trail u p i.looked.behind in
     record {
-      attached = c.in-None.ensures.attached ∙ i.attached;
+      attached = c.in-None.ensures.attached ∙ (c.read_next.ensures ∙ i.attached);
       top = length-set looked top (head + 1) ∙ i.top;
-      rest = rest_same _ _ _ attached _ _ _ i.propagates.variables i.attached c.in-None.ensures.rest;
       room = i.room;
-      behind = advance_behind looked u top head ok b et el in_u;
-      guarded = advance_guarded looked _ attached u top head c.negate.result ok et el eh ea passed (g.guarded looked i.behind i.guarded);
+      looked = record {
+        rest = rest_same _ _ _ attached _ _ _ i.propagates.variables (c.read_next.ensures ∙ i.attached) c.in-None.ensures.rest;
+        behind = advance_behind looked u top head ok b et el in_u;
+        guarded = advance_guarded looked _ attached u top head c.negate.result ok et el eh ea passed (g.guarded looked i.looked.behind i.looked.guarded);
+      };
       propagates = propagates_both _ _ _ c.ahead.trail _ i.propagates p;
     }
 
@@ -63,13 +59,7 @@ returns-clause-happens c =
     let top = c.level-top.result in
     let ht : top < length c.ahead.looked.items = omega (arith, i.top, c.requires.top, c.level-top.ensures.level) in
     let e : c.index.result.now ≡ looked_at c.ahead.looked.items top = get_or_read c.ahead.looked.items top _ ht c.index.ensures 0 in
-    quiet_from _ _ _ _ c.ahead.looked.items _ top i.rest.nodes i.guarded ht (omega (arith, c.ahead-test.false, c.len.ensures.len))
-
-pub returns-in-Some-clause-behind : goal.returns-in-Some-clause-behind
-returns-in-Some-clause-behind c =
-    let i = c.ahead.invariant in
-    let g = goes_same _ _ c.args.nodes.now.attached.items _ _ _ _ i.attached c.in-Some.ensures.goes in
-    behind_further c.ahead.looked.items c.args.nodes.now.attached.items c.args.arena.now c.ahead.trail _ g.propagates i.behind
+    quiet_from _ _ _ _ c.ahead.looked.items _ top i.looked.rest.nodes i.looked.guarded ht (omega (arith, c.ahead-test.false, c.len.ensures.len))
 
 -- what the loop keeps, at its head and after it
 top_in : (c : At-ahead) → c.level-top.result < c.ahead.looked.len
@@ -89,10 +79,8 @@ ahead-init c =
     record {
       attached = refl;
       top = refl;
-      rest = r.rest;
+      looked = r.looked;
       room = refl;
-      behind = r.behind;
-      guarded = r.guarded;
       propagates = propagates_none c.args.nodes.now.attached.items c.args.arena.now c.args.trail.now;
     }
 
@@ -108,20 +96,10 @@ index_mut-requires c = top_in (goal.at.index_mut-requires c).At-ahead
 pub entry-entry-requires : goal.entry-entry-requires
 entry-entry-requires c = head_in (goal.at.entry-entry-requires c).After-index-head
 
-pub read_next-requires-clause-live : goal.read_next-requires-clause-live
-read_next-requires-clause-live c =
-    let i = c.ahead.invariant in
-    subst (λ (xs : List Bool). (r : ℕ) → IsAttached xs r → IsLive c.args.arena.now r) (sym (c.deref.ensures.value ∙ i.attached)) i.rest.nodes.live
-
-pub read_next-requires-clause-pairs : goal.read_next-requires-clause-pairs
-read_next-requires-clause-pairs c =
-    let i = c.ahead.invariant in
-    i.rest.nodes.pairs ∙ ap (λ (xs : List Bool). 2 * length xs) (sym (c.deref.ensures.value ∙ i.attached))
-
 pub read_next-requires-clause-size : goal.read_next-requires-clause-size
 read_next-requires-clause-size c =
     let i = c.ahead.invariant in
-    i.rest.size ∙ ap (λ n. 2 * n + 2) (sym i.propagates.variables)
+    i.looked.rest.size ∙ ap (λ n. 2 * n + 2) (sym i.propagates.variables)
 
 pub walk_list-requires-clause-high : goal.walk_list-requires-clause-high
 walk_list-requires-clause-high c =
@@ -131,7 +109,7 @@ walk_list-requires-clause-high c =
 pub walk_list-requires-clause-rest : goal.walk_list-requires-clause-rest
 walk_list-requires-clause-rest c =
     let i = c.ahead.invariant in
-    rest_same _ _ _ _ _ _ _ (sym i.propagates.variables) (sym i.attached) i.rest
+    rest_same _ _ _ _ _ _ _ (sym i.propagates.variables) (sym (c.read_next.ensures ∙ i.attached)) i.looked.rest
 
 pub returns-clause-attached : goal.returns-clause-attached
 returns-clause-attached c = c.ahead.invariant.attached
@@ -139,28 +117,14 @@ returns-clause-attached c = c.ahead.invariant.attached
 pub returns-clause-top : goal.returns-clause-top
 returns-clause-top c = c.ahead.invariant.top
 
-pub returns-clause-rest : goal.returns-clause-rest
-returns-clause-rest c = c.ahead.invariant.rest
-
 pub returns-clause-room : goal.returns-clause-room
 returns-clause-room c = c.ahead.invariant.room
-
-pub returns-clause-behind : goal.returns-clause-behind
-returns-clause-behind c = c.ahead.invariant.behind
-
-pub returns-clause-guarded : goal.returns-clause-guarded
-returns-clause-guarded c = c.ahead.invariant.guarded
 
 pub returns-clause-propagates : goal.returns-clause-propagates
 returns-clause-propagates c = c.ahead.invariant.propagates
 
 pub returns-in-Some-clause-attached : goal.returns-in-Some-clause-attached
-returns-in-Some-clause-attached c = c.in-Some.ensures.attached ∙ c.ahead.invariant.attached
-
-pub returns-in-Some-clause-rest : goal.returns-in-Some-clause-rest
-returns-in-Some-clause-rest c =
-    let i = c.ahead.invariant in
-    rest_same _ _ _ _ _ _ _ i.propagates.variables i.attached c.in-Some.ensures.rest
+returns-in-Some-clause-attached c = c.in-Some.ensures.attached ∙ (c.read_next.ensures ∙ c.ahead.invariant.attached)
 
 pub returns-in-Some-clause-room : goal.returns-in-Some-clause-room
 returns-in-Some-clause-room c = c.ahead.invariant.room
@@ -179,4 +143,29 @@ walk_list-requires-clause-falsified c =
     )
 
 pub returns-in-Some-clause-happens : goal.returns-in-Some-clause-happens
-returns-in-Some-clause-happens c = subst (λ (b : List Bool). IsConflict b c.args.arena.now c.walk_list.new.trail c.in-Some.reference) c.ahead.invariant.attached c.in-Some.ensures.walked
+returns-in-Some-clause-happens c = subst (λ (b : List Bool). IsConflict b c.args.arena.now c.walk_list.new.trail c.in-Some.reference) (c.read_next.ensures ∙ c.ahead.invariant.attached) c.in-Some.ensures.walked
+
+pub returns-clause-looked : goal.returns-clause-looked
+returns-clause-looked c = c.ahead.invariant.looked
+
+pub returns-in-Some-clause-looked : goal.returns-in-Some-clause-looked
+returns-in-Some-clause-looked c =
+    let i = c.ahead.invariant in
+    let looked = c.ahead.looked.items in
+    let attached = c.args.nodes.now.attached.items in
+    let g = goes_same _ _ attached _ _ _ _ (c.read_next.ensures ∙ i.attached) c.in-Some.ensures.goes in
+    record {
+      rest = rest_same _ _ _ _ _ _ _ i.propagates.variables (c.read_next.ensures ∙ i.attached) c.in-Some.ensures.rest;
+      behind = behind_further looked attached c.args.arena.now c.ahead.trail _ g.propagates i.looked.behind;
+      guarded = g.guarded looked i.looked.behind i.looked.guarded;
+    }
+
+pub read_next-requires-clause-live : goal.read_next-requires-clause-live
+read_next-requires-clause-live c =
+    let i = c.ahead.invariant in
+    subst (λ (xs : List Bool). (r : ℕ) → IsAttached xs r → IsLive c.args.arena.now r) (sym i.attached) i.looked.rest.nodes.live
+
+pub read_next-requires-clause-pairs : goal.read_next-requires-clause-pairs
+read_next-requires-clause-pairs c =
+    let i = c.ahead.invariant in
+    i.looked.rest.nodes.pairs ∙ ap (λ (xs : List Bool). 2 * length xs) (sym i.attached)

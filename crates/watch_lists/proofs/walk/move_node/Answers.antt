@@ -9,13 +9,13 @@ pub relink-requires-clause-free : goal.relink-requires-clause-free
 relink-requires-clause-free c l h = c.unlink-shorter.ensures.free l (subst (λ (xs : List (List ℕ)). Contains (list_at xs l) c.args.cursor.current) c.watch.ensures.lists h)
 
 pub unlink-shorter-requires-clause-cursor : goal.unlink-shorter-requires-clause-cursor
-unlink-shorter-requires-clause-cursor c = c.requires.cursor
+unlink-shorter-requires-clause-cursor c = c.requires.cursor.cursor
 
 pub unlink-shorter-requires-clause-some : goal.unlink-shorter-requires-clause-some
-unlink-shorter-requires-clause-some c = c.requires.some
+unlink-shorter-requires-clause-some c = c.requires.cursor.some
 
 pub watch-requires : goal.watch-requires
-watch-requires c = subst (λ (h : List Literal). c.args.cursor.current < length h) (sym c.unlink-shorter.ensures.held) c.requires.node
+watch-requires c = subst (λ (h : List Literal). c.args.cursor.current < length h) (sym c.unlink-shorter.ensures.held) c.requires.cursor.node
 
 pub relink-requires-clause-flagged : goal.relink-requires-clause-flagged
 relink-requires-clause-flagged c = subst (λ (flags : List Bool). IsFlagged flags c.args.cursor.current) (sym c.watch.ensures.flags) c.unlink-shorter.ensures.flagged
@@ -25,7 +25,7 @@ relink-requires-clause-list c = omega (arith, c.code.ensures.code, ap length c.w
 
 pub relink-requires-clause-node : goal.relink-requires-clause-node
 relink-requires-clause-node c =
-    omega (arith, ap length c.watch.ensures.held ∙ length-set c.unlink-shorter.new.self.held c.args.cursor.current c.args.literal, ap length c.unlink-shorter.ensures.held, c.requires.node)
+    omega (arith, ap length c.watch.ensures.held ∙ length-set c.unlink-shorter.new.self.held c.args.cursor.current c.args.literal, ap length c.unlink-shorter.ensures.held, c.requires.cursor.node)
 
 pub returns-clause-moved : goal.returns-clause-moved
 returns-clause-moved c =

@@ -5,15 +5,15 @@ use Rattle.cx_trail.specs.Sequence.{TrailState, IsTrail}
 use Rattle.watch_lists.specs.Watching.{clause_of}
 use Rattle.watch_lists.specs.Walking.{IsRest, IsWalk, Goes, IsConflict}
 use Rattle.watch_lists.proofs.NodeLaws.{propagates_none}
-use Rattle.watch_lists.proofs.WalkLaws.{Moves, node_inside, node_attached, node_detached, literal_high, goes_kept, passed_walk, dropped_rest, dropped_walk, moved_rest, moved_walk, goes_moved}
+use Rattle.watch_lists.proofs.WalkLaws.{Moves, at_node, node_inside, node_attached, node_detached, literal_high, goes_kept, passed_walk, dropped_rest, dropped_walk, moved_rest, moved_walk, goes_moved}
 use Rattle.watch_lists.proofs.walk.visit.Goals.{After-move_node}
 use Rattle.watch_lists.proofs.walk.visit.Goals as goal
 
 pub index-requires : goal.index-requires
 index-requires c = omega (arith, node_inside _ _ _ _ _ _ c.args.cursor c.requires.walk c.requires.some, c.requires.walk.rest.nodes.pairs, c.args.nodes.now.attached.ok.0)
 
-pub drop_node-requires-clause-node : goal.drop_node-requires-clause-node
-drop_node-requires-clause-node c = node_inside _ _ _ _ _ _ c.args.cursor c.requires.walk c.requires.some
+pub drop_node-requires : goal.drop_node-requires
+drop_node-requires c = record { cursor = at_node _ _ _ _ _ _ c.args.cursor c.requires.walk c.requires.some }
 
 pub returns-then-not-index-clause-rest : goal.returns-then-not-index-clause-rest
 returns-then-not-index-clause-rest c =
@@ -35,8 +35,8 @@ returns-then-not-index-clause-turns c =
 pub visit_node-requires-clause-attached : goal.visit_node-requires-clause-attached
 visit_node-requires-clause-attached c = node_attached _ _ _ _ _ _ c.args.cursor c.index.result.now c.requires.walk c.requires.some c.index.ensures c.if-not-index.false
 
-pub move_node-requires-clause-node : goal.move_node-requires-clause-node
-move_node-requires-clause-node c = node_inside _ _ _ _ _ _ c.args.cursor c.requires.walk c.requires.some
+pub move_node-requires-clause-cursor : goal.move_node-requires-clause-cursor
+move_node-requires-clause-cursor c = at_node _ _ _ _ _ _ c.args.cursor c.requires.walk c.requires.some
 
 pub move_node-requires-clause-high : goal.move_node-requires-clause-high
 move_node-requires-clause-high c =
@@ -101,18 +101,6 @@ returns-in-Conflict-clause-turns c =
     let at = node_attached _ _ b _ _ _ c.args.cursor c.index.result.now c.requires.walk c.requires.some c.index.ensures c.if-not-index.false in
     subst (λ r. IsConflict b a c.visit_node.new.trail r) (sym c.new.ensures)
     (subst (λ (t : TrailState). IsConflict b a t (clause_of c.args.cursor.current)) (sym v.0) (at, v.1))
-
-pub drop_node-requires-clause-cursor : goal.drop_node-requires-clause-cursor
-drop_node-requires-clause-cursor c = c.requires.walk.cursor
-
-pub drop_node-requires-clause-some : goal.drop_node-requires-clause-some
-drop_node-requires-clause-some c = c.requires.some
-
-pub move_node-requires-clause-cursor : goal.move_node-requires-clause-cursor
-move_node-requires-clause-cursor c = c.requires.walk.cursor
-
-pub move_node-requires-clause-some : goal.move_node-requires-clause-some
-move_node-requires-clause-some c = c.requires.some
 
 pub pass-requires-clause-cursor : goal.pass-requires-clause-cursor
 pass-requires-clause-cursor c = c.requires.walk.cursor
