@@ -38,6 +38,16 @@ pub struct Engine {
     pub hints: u64,
 }
 
+/// The clauses that a search reads.
+#[derive(Drop)]
+pub(crate) struct LiveClauses<'c> {
+    /// No variable of a clause is greater.
+    pub limit: u32,
+    pub arena: &'c Arena,
+    /// For each variable a clause that came with just one literal of it. It may have gone since.
+    pub units: &'c [Option<ClauseRef>],
+}
+
 impl Engine {
     /// No clause is held; there is room for variables up to the limit.
     pub fn make(alloc: Global, limit: u32) -> Result<Engine, AllocError>

@@ -11,10 +11,9 @@ ghost use Rattle.clause_arena.specs.Clauses.{IsLive};
 ghost use Rattle.rup_engine.specs.Forgetting.{IsReasonOf};
 ghost use Rattle.rup_engine.specs.Finding.{IsAtRest, Holds};
 
-use crate::engine::Engine;
+use crate::engine::{Engine, LiveClauses};
 use crate::gather::clause_of;
 use crate::search::back;
-use clause_arena::Arena;
 use cx_base::{ClauseRef, Lit};
 use cx_trail::{Trail, Truth};
 use watch_lists::Watches;
@@ -59,21 +58,20 @@ fn is_broken(broken: Option<ClauseRef>, reference: ClauseRef) -> bool
 
 /// Takes level 1 back where it rests on a clause, or makes just this one false.
 fn release(
-    limit: u32,
-    arena: &Arena,
+    clauses: &LiveClauses,
     watches: &mut Watches,
     trail: &mut Trail,
     broken: &mut Option<ClauseRef>,
     reference: ClauseRef,
 )
-    requires rests { Rests limit [] arena.now watches.old trail.old }
-    requires live { IsLive arena.now reference }
-    ensures rests { Rests limit [] arena.now watches.new trail.new }
+    requires rests { Rests clauses.now.limit [] clauses.now.arena.now watches.old trail.old }
+    requires live { IsLive clauses.now.arena.now reference }
+    ensures rests { Rests clauses.now.limit [] clauses.now.arena.now watches.new trail.new }
     ensures attached { watches.new.attached ≡ watches.old.attached }
     ensures unused { (i : ℕ) → i < length trail.new.entries → (entry_at trail.new.entries i).reason ≢ Clause reference }
     ensures kept { ((trail.new.level ≡ 0) × (broken.new ≡ None)) ⊎ ((trail.new ≡ trail.old) × (broken.new ≡ broken.old) × (broken.old ≢ Some reference)) }
 {
-    if is_broken(*broken, reference) || is_reason(trail, arena.lits(reference), reference) {
+    if is_broken(*broken, reference) || is_reason(trail, clauses.arena.lits(reference), reference) {
         back(watches, trail, 0);
         *broken = None;
     }
@@ -92,9 +90,13 @@ impl Engine {
             Some(reference) => *reference,
             None => return,
         };
+        let clauses = LiveClauses {
+            limit: self.limit,
+            arena: &self.arena,
+            units: &self.units,
+        };
         release(
-            self.limit,
-            &self.arena,
+            &clauses,
             &mut self.watches,
             &mut self.trail,
             &mut self.broken,
