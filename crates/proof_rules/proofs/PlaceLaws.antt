@@ -13,7 +13,7 @@ use Rattle.std.specs.Ordering.{eq_by_cmp}
 use Rattle.std.proofs.lemmas.List.{get_or-set_same, get_or-set_other, get_or_past}
 use Rattle.std.specs.FinMap as map
 use Rattle.cx_semantics.proofs.MapEntries.{look, get-from_entries}
-use Rattle.proof_rules.specs.Places.{entries_from, entries_of, IsTakenOut}
+use Rattle.proof_rules.specs.Places.{entries_from, entries_of, value_under, IsTakenOut}
 
 pub is_eq-same : (n : ℕ) → is_eq (nat_cmp n n) ≡ true
 is_eq-same n = unsigned_tied n n ∙ eq-eqb n n refl
@@ -140,3 +140,8 @@ nothing_to_take {V} k [] h = λ q. at (is_eq (nat_cmp k q))
     at true = refl
     at false = refl
 nothing_to_take k (e ∷ es) h = absurd (omega (arith, h))
+
+-- nothing is under an id in no entries
+pub nothing_under : {V : Type 0} (k : ℕ) (es : List (ℕ × V)) → length es ≡ 0 → value_under k es ≡ None
+nothing_under k [] h = refl
+nothing_under k (e ∷ es) h = absurd (omega (arith, h))

@@ -2,7 +2,8 @@
 ghost use Rattle.std.specs.Prelude.{◌≡◌, ◌<◌, ◌≤◌, false, OnOk, OnErr, IfOk, MatchOption, None, Some, length, get_or, set};
 ghost use Rattle.std.specs.FinMap as map;
 ghost use Rattle.std.specs.Map.{keys_of};
-ghost use Rattle.proof_rules.specs.Places.{entries_of, places_of, IsTakenOut, HasKeys};
+ghost use Rattle.std.specs.Option.{option_or};
+ghost use Rattle.proof_rules.specs.Places.{entries_of, places_of, value_under, IsTakenOut, HasKeys};
 
 use crate::page::{Filler, PLACES, Page};
 use std::alloc::{AllocError, Global};
@@ -120,6 +121,55 @@ impl<V: Drop + Filler> IdMap<V> {
     }
 }
 
+impl<V: Copy + Drop + Filler> IdMap<V> {
+    /// Takes out what is under this id and gives it, if there is something.
+    // One look-up for both, on the path of each id that is moved.
+    #[inline(always)]
+    pub(crate) fn take(&mut self, id: u64) -> Option<V>
+        ensures taken { result ≡ map.get self.old id }
+        ensures gone { self.new ≡ map.remove self.old id }
+    {
+        let near = take_place(&mut self.near, id);
+        make_idle(&mut self.near, &mut self.idle, id);
+        let far = take_far(&mut self.far, id);
+        first_of(near, far)
+    }
+}
+
+/// The first of the two values that is there.
+#[inline(always)]
+fn first_of<V: Copy + Drop>(near: Option<V>, far: Option<V>) -> Option<V>
+    ensures { result ≡ option_or near far }
+{
+    match near {
+        Some(value) => Some(value),
+        None => far,
+    }
+}
+
+/// Takes out what the ordered map has under this id, and gives it, if it has something. Mostly the map is empty.
+#[inline(always)]
+fn take_far<V: Copy + Drop>(far: &mut BTreeMap<u64, V>, id: u64) -> Option<V>
+    ensures taken { result ≡ value_under id far.old.entries }
+    ensures gone { IsTakenOut id far.old.entries far.new.entries }
+{
+    if far.is_empty() {
+        None
+    } else {
+        far_value(far, id)
+    }
+}
+
+/// Takes out what the ordered map has under this id, and gives it, if it has something.
+// Apart for the same reason as `remove_far`.
+#[inline(never)]
+fn far_value<V: Copy + Drop>(far: &mut BTreeMap<u64, V>, id: u64) -> Option<V>
+    ensures taken { result ≡ value_under id far.old.entries }
+    ensures gone { IsTakenOut id far.old.entries far.new.entries }
+{
+    far.remove(&id)
+}
+
 /// Takes out what the ordered map has under this id, if it has something. Mostly the map is empty.
 #[inline(always)]
 fn clear_far<V: Drop>(far: &mut BTreeMap<u64, V>, id: u64)
@@ -180,6 +230,20 @@ fn clear_place<V: Drop + Filler>(near: &mut Vec<Page<V>>, id: u64)
     let page = id / PLACES;
     if page < near.len() as u64 {
         near[page as usize].clear((id % PLACES) as usize);
+    }
+}
+
+/// Empties the place of this id, if there is one, and gives the value that it held.
+#[inline(always)]
+fn take_place<V: Copy + Drop + Filler>(near: &mut Vec<Page<V>>, id: u64) -> Option<V>
+    ensures taken { result ≡ get_or (places_of near.old.items) id None }
+    ensures gone { places_of near.new.items ≡ set (places_of near.old.items) id None }
+{
+    let page = id / PLACES;
+    if page < near.len() as u64 {
+        near[page as usize].take((id % PLACES) as usize)
+    } else {
+        None
     }
 }
 

@@ -120,17 +120,6 @@ fn put_all_in<V: Copy + Drop + Filler>(
 }
 
 impl<V: Copy + Drop + Filler> IdMap<V> {
-    /// Takes out what is under this id and gives it, if there is something.
-    #[inline(always)]
-    fn take(&mut self, id: u64) -> Option<V>
-        ensures taken { result ≡ map.get self.old id }
-        ensures gone { self.new ≡ map.remove self.old id }
-    {
-        let value = value_of(self, id);
-        self.remove(id);
-        value
-    }
-
     /// Moves values under other ids, all at once. Where nothing is under an old id, nothing comes under the new one.
     pub fn move_ids(&mut self, alloc: Global, moves: &[IdMove]) -> Result<(), AllocError>
         ensures { OnOk result (self.new ≡ moved self.old moves.now) }

@@ -109,6 +109,7 @@ impl<V: Drop + Filler> Page<V> {
     }
 
     /// Whether no place holds a value.
+    #[inline(always)]
     pub(crate) fn is_vacant(&self) -> bool
         ensures { IsTrue result ↔ (all_places self.now ≡ replicate 64 None) }
     {
@@ -135,6 +136,31 @@ impl<V: Drop + Filler> Page<V> {
             }
         }
         Ok(())
+    }
+}
+
+impl<V: Copy + Drop + Filler> Page<V> {
+    /// A copy of the value in this place.
+    #[inline(always)]
+    fn copy_of(&self, place: usize) -> Option<V>
+        ensures { result ≡ get_or self.now place None }
+    {
+        match self.get(place) {
+            Some(value) => Some(*value),
+            None => None,
+        }
+    }
+
+    /// Empties this place, and gives the value that it held, if there was one.
+    #[inline(always)]
+    pub(crate) fn take(&mut self, place: usize) -> Option<V>
+        requires { place < 64 }
+        ensures taken { result ≡ get_or self.old place None }
+        ensures gone { all_places self.new ≡ set (all_places self.old) place None }
+    {
+        let value = self.copy_of(place);
+        self.clear(place);
+        value
     }
 }
 
