@@ -81,6 +81,34 @@ pub(crate) fn short_integer(text: &[u8]) -> Option<ShortInteger>
     })
 }
 
+/// Whether a byte is a space, the most frequent blank.
+#[inline(always)]
+fn is_space_byte(byte: u8) -> bool
+    ensures { result ≡ true → is_blank byte ≡ true }
+{
+    byte == b' '
+}
+
+/// The number of a few digits at the start, where a space follows it.
+///
+/// `None` says nothing, as of an integer.
+#[inline(always)]
+pub(crate) fn short_number(text: &[u8]) -> Option<ShortInteger>
+    ensures { IfSome result (IsShortFront text.now) }
+{
+    if text.len() <= FEW + 1 {
+        return None;
+    }
+    let digits = few_digits(text);
+    if digits.len == 0 || !is_space_byte(text[digits.len]) {
+        return None;
+    }
+    Some(ShortInteger {
+        value: signed_value(false, digits.value),
+        len: digits.len,
+    })
+}
+
 /// Numbers that were taken one after another: whether the zero that ends a list was the last, and where the next token begins.
 #[derive(Clone, Copy, Drop)]
 pub(crate) struct Shorts {

@@ -4,7 +4,7 @@ ghost use Rattle.cx_base.specs.declared.id_moves.IdMove.{IdMove};
 ghost use Rattle.cx_texts.specs.Tokens.{is_blank};
 ghost use Rattle.step_text.specs.Short.{TakesPairs};
 
-use crate::short_integer::short_integer;
+use crate::short_integer::short_number;
 use cx_base::IdMove;
 use cx_texts::begin_behind;
 use std::alloc::AllocError;
@@ -16,18 +16,18 @@ struct ShortPair {
     next: usize,
 }
 
-/// The two ids of a few digits that begin there, where a blank follows each.
+/// The two ids of a few digits that begin there, where a space follows each.
 ///
-/// `None` says nothing, as of one integer.
+/// `None` says nothing, as of one number.
 #[inline(always)]
 fn short_pair(text: &[u8], at: usize) -> Option<ShortPair>
     requires high { at ≤ length text.now }
     requires begins { at < length text.now → is_blank (slice_index text.now at) ≡ false }
     ensures { IfSome result (λ pair. TakesPairs text.now at (pair.ids ∷ []) pair.next) }
 {
-    let old = short_integer(&text[at..])?;
+    let old = short_number(&text[at..])?;
     let between = begin_behind(text, at + old.len);
-    let new = short_integer(&text[between..])?;
+    let new = short_number(&text[between..])?;
     if old.value < 1 || new.value < 1 {
         return None;
     }
