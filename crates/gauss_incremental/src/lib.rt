@@ -8,11 +8,15 @@
 #![tactic(auto)]
 
 mod basics;
+mod gates;
 mod incremental;
 mod line;
 mod lists;
+mod looks;
 mod marks;
 mod names;
+mod short_first;
+mod shorts;
 mod sight;
 mod trail;
 mod watching;
@@ -20,3 +24,4 @@ mod watching;
 pub use gf2_matrix::RowView;
 pub use incremental::Incremental;
 pub use parity_engine::{Held, Mood, ParityEngine, ParityEvent};
+pub use short_first::ShortFirst;

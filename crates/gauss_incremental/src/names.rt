@@ -1,5 +1,5 @@
 //! Which rows events named, in the order in which they were named: a backjump costs what it forgets.
-ghost use Rattle.std.specs.Prelude.{◌≡◌, ℕ, ◌<◌, ◌≤◌, IfOk, None, Some, length, map, replicate, slice_index_or, slice_set, true};
+ghost use Rattle.std.specs.Prelude.{◌≡◌, ℕ, ◌<◌, ◌≤◌, IfOk, IsTrue, None, Some, length, map, replicate, slice_index_or, slice_set, true};
 ghost use Rattle.parity_engine.specs.declared.state.Naming.{Naming};
 ghost use Rattle.parity_engine.specs.Namings.{keep_naming};
 ghost use Rattle.gauss_incremental.specs.Namings.{AreClashesAbove, AreNamedBy, as_held};
@@ -61,6 +61,17 @@ impl RowNames {
         }
         let count = push(&mut self.order, self.count, row);
         self.count = count;
+    }
+
+    /// Whether the row may be named at a level: it has no name, or one of this level.
+    pub(crate) fn may_have(&self, row: usize, level: u32) -> bool
+        requires { row < length self.now }
+        ensures { IsTrue result → (m : Naming) → slice_index_or self.now row None ≡ Some m → m.level ≡ level }
+    {
+        match self.named[row] {
+            Some(naming) => naming.level == level,
+            None => true,
+        }
     }
 
     /// Forgets the names above the level. Those for a contradiction are above it.
