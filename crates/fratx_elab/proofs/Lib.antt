@@ -6,6 +6,7 @@ mod Numbers
 mod Taking
 mod Texts
 mod Turns
+mod Leaving
 mod EntryOrder
 mod MovedTies
 mod TakingMoves

@@ -1,5 +1,5 @@
 -- One turn of the elaborator: from what is known before a step to what is known after it, or to the answer.
-use Rattle.std.proofs.Common.{◌≡◌, refl, sym, ap, ◌∙◌, subst, ℕ, ◌+◌, ◌-◌, Bool, true, false, List, [], ◌∷◌, ◌++◌, length, length-append, take, append-nil, append_assoc, Option, Some, None, IfErr, Result, Ok, Err, inl, inr, arith, true≢false}
+use Rattle.std.proofs.Common.{◌≡◌, refl, sym, ap, ◌∙◌, subst, ℕ, ◌+◌, ◌-◌, Bool, true, false, List, [], ◌∷◌, ◌++◌, length, length-append, take, append-nil, append_assoc, Option, Some, None, Result, Ok, Err, inl, inr, arith, true≢false}
 use Rattle.cx_base.specs.Problem.{Problem, clauses_of, parities_of}
 use Rattle.cx_base.specs.Assumptions.{clashes}
 use Rattle.cx_base.specs.declared.steps.LogStep.{LogStep}
@@ -12,8 +12,8 @@ use Rattle.cx_semantics.specs.LogRules.{log_calculus, log_rules, derives_ending_
 use Rattle.cx_semantics.specs.ProofRules.{proof_calculus, after_step}
 use Rattle.cx_semantics.specs.Tables.{Tables, first_tables, no_tables}
 use Rattle.cx_semantics.proofs.JudgingLaws.{runs_push}
-use Rattle.step_text.specs.Sources.{GivesNone, FaultsAs, StuckAs}
-use Rattle.step_text.specs.Sinks.{with_next, SinkFaultsAs}
+use Rattle.step_text.specs.Sources.{GivesNone}
+use Rattle.step_text.specs.Sinks.{with_next}
 use Rattle.step_text.specs.declared.source.TextRefusal.{TextRefusal}
 use Rattle.step_text.specs.declared.source.TextRefusal.TheVariants as text
 use Rattle.step_text.specs.declared.sink.SinkFault.{SinkFault}
@@ -27,7 +27,7 @@ use Rattle.fratx_elab.specs.Ties.{AreTied, HaveSameForm}
 use Rattle.fratx_elab.proofs.TieLaws.{tied_first}
 use Rattle.fratx_elab.specs.Takes.{TakesLogStep, KeepsTie, listed, names_of}
 use Rattle.fratx_elab.specs.Writing.{WritesDown}
-use Rattle.fratx_elab.specs.Outcomes.{Gained, IsProofWritten, IsElaborated, IsCutOff, Kept, Turns, text_refused, step_refused, what_follows_of, ReadsStand, WritesStand, IsTooLongBy}
+use Rattle.fratx_elab.specs.Outcomes.{Gained, IsProofWritten, IsElaborated, IsCutOff, Kept, Turns, text_refused, step_refused, what_follows_of}
 use Rattle.fratx_elab.specs.declared.state.State.{State}
 use Rattle.fratx_elab.specs.declared.outcome.Elab.TheVariants.{Done, Refused}
 use Rattle.fratx_elab.specs.declared.outcome.ElabFault.TheVariants.{Memory, Write}
@@ -230,69 +230,3 @@ clash_is_done leaves told torn formula first clash left = (
   inl (clash, refl),
   λ start e. ([], e ∙ ap Some (sym (append-nil start)), ((first_names formula, (refl, refl)), inl (clash, refl))),
 )
-
--- ---- the sink's faults
-
-module _ (before now : ℕ) where
-  pub text_stands : (why : TextRefusal) (k : ℕ) → now ≡ before → WritesStand (text_refused why k) before now
-  text_stands (text.BadToken place) k e = e
-  text_stands (text.Unterminated place) k e = e
-  text_stands (text.TooBig place) k e = e
-  text_stands text.TooLong k e = e
-  text_stands text.Memory k e = e
-  text_stands text.Failed k e = e
-
-  pub step_stands : (why : JudgeRefusal) (k : ℕ) → now ≡ before → WritesStand (step_refused why k) before now
-  step_stands (refusal.Wrong cause) k e = e
-  step_stands refusal.Memory k e = e
-
-  pub write_stands : (wrote : Result (Unit {0}) SinkFault) (ends : Bool) (k : ℕ) → SinkFaultsAs wrote before now → WritesStand (what_follows_of wrote ends k) before now
-  write_stands (Ok u) true k e = e
-  write_stands (Ok u) false k e = e
-  write_stands (Err sink.Memory) ends k e = e
-  write_stands (Err sink.Failed) ends k e = tt
-
--- ---- the source's faults
-
-abbrev unread : TextRefusal → Result (Unit {0}) TextRefusal
-unread why = Err why
-
-module _ (before now : ℕ) where
-  pub text_reads : (why : TextRefusal) (k : ℕ) → FaultsAs (unread why) before now → ReadsStand (text_refused why k) before now
-  text_reads (text.BadToken place) k e = e
-  text_reads (text.Unterminated place) k e = e
-  text_reads (text.TooBig place) k e = e
-  text_reads text.TooLong k e = e
-  text_reads text.Memory k e = e
-  text_reads text.Failed k e = tt
-
-  pub step_reads : (why : JudgeRefusal) (k : ℕ) → now ≡ before → ReadsStand (step_refused why k) before now
-  step_reads (refusal.Wrong cause) k e = e
-  step_reads refusal.Memory k e = e
-
-  pub write_reads : (wrote : Result (Unit {0}) SinkFault) (ends : Bool) (k : ℕ) → now ≡ before → ReadsStand (what_follows_of wrote ends k) before now
-  write_reads (Ok u) true k e = e
-  write_reads (Ok u) false k e = e
-  write_reads (Err sink.Memory) ends k e = e
-  write_reads (Err sink.Failed) ends k e = e
-
--- ---- a text that is too long
-
-pub text_stuck : (T : Type 0) (before now : Option TextRefusal) (why : TextRefusal) (k : ℕ) → StuckAs {T = T} before (Err why) now → IfErr (text_refused why k) (IsTooLongBy now)
-text_stuck T before now (text.BadToken place) k e = tt
-text_stuck T before now (text.Unterminated place) k e = tt
-text_stuck T before now (text.TooBig place) k e = tt
-text_stuck T None now text.TooLong k e = e
-text_stuck T (Some r) now text.TooLong k e = cc (e.0, e.1)
-text_stuck T before now text.Memory k e = tt
-text_stuck T before now text.Failed k e = tt
-
-pub step_stuck : (now : Option TextRefusal) (why : JudgeRefusal) (k : ℕ) → IfErr (step_refused why k) (IsTooLongBy now)
-step_stuck now (refusal.Wrong cause) k = tt
-step_stuck now refusal.Memory k = tt
-
-pub write_stuck : (now : Option TextRefusal) (wrote : Result (Unit {0}) SinkFault) (ends : Bool) (k : ℕ) → IfErr (what_follows_of wrote ends k) (IsTooLongBy now)
-write_stuck now (Ok u) true k = tt
-write_stuck now (Ok u) false k = tt
-write_stuck now (Err sink.Memory) ends k = tt
-write_stuck now (Err sink.Failed) ends k = tt

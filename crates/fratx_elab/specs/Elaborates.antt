@@ -10,6 +10,7 @@ use Rattle.cx_base.specs.declared.steps.ProofStep.{ProofStep}
 use Rattle.cx_base.specs.declared.steps.ProofStep.TheVariants as proof
 use Rattle.cx_semantics.specs.Chain.{same_literals}
 use Rattle.cx_base.specs.Integers.{literals}
+use Rattle.fratx_elab.specs.declared.originals.Counts.{Counts}
 use Rattle.fratx_elab.specs.Names.{Names, stands_for, hints_for, first_names, name_original, name_next, drop_name, move_names}
 
 -- k is the least number, from 1, of a list with the property
@@ -52,6 +53,11 @@ number_of_clauses formula = length (clauses_of formula.constraints)
 
 abbrev pub number_of_parities : Problem → ℕ
 number_of_parities formula = length (parities_of formula.constraints)
+
+-- a formula has so many clauses and so many parities
+pub record AreCounts (counts : Counts) (formula : Problem) : Type 0 where
+  pub clauses : counts.clauses ≡ number_of_clauses formula
+  pub parities : counts.parities ≡ number_of_parities formula
 
 -- a step that adds a clause gives it the next clause id; its hints are some list
 abbrev pub WritesClause : Names → ℕ → List ℤ → List ProofStep → Names → Type 0

@@ -1,5 +1,5 @@
 -- One step of a log, judged and done.
-use Rattle.std.specs.Prelude.{◌≡◌, ◌≤◌, ◌+◌, ℕ, ℤ, ⊤, Bool, false, List, [], ◌∷◌, Option, Some, None, Result, Ok, Err}
+use Rattle.std.specs.Prelude.{◌≡◌, ◌≤◌, ◌+◌, ◌^◌, ℕ, ℤ, ⊤, Bool, false, List, [], ◌∷◌, Option, Some, None, Result, Ok, Err}
 use Rattle.cx_base.specs.Literals.{Literal}
 use Rattle.cx_base.specs.Problem.{Problem}
 use Rattle.cx_semantics.specs.Chain.{IsChain}
@@ -61,3 +61,14 @@ GivesChain table target (Err why) = IsRefusedBy (chained table target) why
 abbrev pub SettlesHints : Table → Naming → List Literal → {T : Type 0} → Result T JudgeRefusal → List ℤ → Type 0
 SettlesHints table naming target (Ok done) hints = (ids : List ℕ) × AreLive table ids × IsChain target (named table ids) × (hints ≡ hints_for naming ids)
 SettlesHints table naming target (Err why) hints = IsRefusedBy (chained table target) why
+
+-- there are ids for the steps to come, after this many steps from the formula on
+pub record HasRoom (state : State) (steps : ℕ) : Type 0 where
+  pub clauses : state.clauses.last ≤ 2 ^ 60 + steps
+  pub parities : state.parities.last ≤ 2 ^ 60 + steps
+
+-- after this many steps one more can be taken: the state is tied to some proof, and ids are left
+pub record CanTakeNext (formula : Problem) (state : State) (steps : ℕ) : Type 0 where
+  pub tied : (proof : Tables) × AreTied formula state.live proof (names_of state)
+  pub room : HasRoom state steps
+  pub few : steps ≤ 2 ^ 62

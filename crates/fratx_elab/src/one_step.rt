@@ -3,7 +3,7 @@ ghost use Rattle.std.specs.Prelude.{◌≡◌, ◌<◌, length, IfOk, OnOk};
 ghost use Rattle.cx_semantics.specs.LogRules.{derives_ending_clause};
 ghost use Rattle.cx_semantics.specs.Tables.{Tables};
 ghost use Rattle.fratx_elab.specs.Contents.{StandsFor};
-ghost use Rattle.fratx_elab.specs.Elaborates.{number_of_clauses, number_of_parities};
+ghost use Rattle.fratx_elab.specs.Elaborates.{AreCounts};
 ghost use Rattle.fratx_elab.specs.Takes.{TakesLogStep, CanBePrinted, CountsOneMore, names_of};
 ghost use Rattle.fratx_elab.specs.Ties.{AreTied};
 ghost use Rattle.fratx_elab.specs.declared.naming.TheConstants.{MAX_ID};
@@ -55,8 +55,7 @@ pub fn take_step(
     step: LogStep,
 ) -> Result<Option<ProofStep>, JudgeRefusal>
     requires originals { StandsFor originals.now formula.now }
-    requires clauses { counts.clauses ≡ number_of_clauses formula.now }
-    requires parities { counts.parities ≡ number_of_parities formula.now }
+    requires counts { AreCounts counts formula.now }
     requires clause_room { state.old.clauses.last < MAX_ID }
     requires parity_room { state.old.parities.last < MAX_ID }
     requires tied { (proof : Tables) × AreTied formula.now state.old.live proof (names_of state.old) }

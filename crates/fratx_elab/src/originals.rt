@@ -3,7 +3,7 @@ ghost use Rattle.std.specs.Prelude.{◌≡◌, ◌≤◌, ◌<◌, ◌+◌, ◌-
 ghost use Rattle.std.specs.List.{All};
 ghost use Rattle.cx_base.specs.Problem.{clauses_of, parities_of};
 ghost use Rattle.cx_semantics.specs.LogRules.{is_original, IsOriginalParity};
-ghost use Rattle.fratx_elab.specs.Elaborates.{IsClauseNumber, IsParityNumber, number_of_clauses, number_of_parities};
+ghost use Rattle.fratx_elab.specs.Elaborates.{IsClauseNumber, IsParityNumber, AreCounts, number_of_clauses, number_of_parities};
 ghost use Rattle.fratx_elab.specs.Contents.{HasFront, AreNumbered, Say, StandsFor};
 ghost use Rattle.proof_rules.specs.Contents.{IsClauseContent, IsParityContent};
 ghost use Rattle.fratx_elab.specs.declared.naming.TheConstants.{MAX_ID};
@@ -23,8 +23,7 @@ pub struct Counts {
 
 /// The formula's numbers of clauses and of parities.
 pub fn count_kinds(formula: &Formula) -> Counts
-    ensures clauses { result.clauses ≡ number_of_clauses formula.now }
-    ensures parities { result.parities ≡ number_of_parities formula.now }
+    ensures counts { AreCounts result formula.now }
     ensures kinds { result.clauses + result.parities ≤ length formula.now.constraints }
     ensures few { length formula.now.constraints < 2 ^ 60 }
 {

@@ -1,16 +1,12 @@
 //! The elaborator: steps are taken one after another.
-ghost use Rattle.std.specs.Prelude.{◌≡◌, ◌<◌, ◌≤◌, ◌^◌, ◌+◌, false, None, length, IfOk, IfErr, OnOk, OnErr, List, ℕ};
-ghost use Rattle.cx_base.specs.Endings.{Ending};
-ghost use Rattle.cx_semantics.specs.Tables.{Tables};
-ghost use Rattle.cx_base.specs.declared.steps.LogStep.{LogStep};
-ghost use Rattle.cx_base.specs.Problem.{Problem};
+ghost use Rattle.std.specs.Prelude.{◌≡◌, ◌+◌, false, None, IfOk, IfErr, List, ℕ};
 ghost use Rattle.fratx_elab.specs.Contents.{StandsFor};
-ghost use Rattle.fratx_elab.specs.Elaborates.{number_of_clauses, number_of_parities};
-ghost use Rattle.fratx_elab.specs.Outcomes.{IsElaborated, IsCutOff, HasCause, IsTooLongBy, Kept, Turns, text_refused, step_refused, what_follows_of, ReadsStand, WritesStand};
-ghost use Rattle.fratx_elab.specs.Takes.{CanBePrinted, CountsOneMore, TakesLogStep, names_of};
-ghost use Rattle.fratx_elab.specs.Ties.{AreTied};
+ghost use Rattle.fratx_elab.specs.Elaborates.{AreCounts};
+ghost use Rattle.fratx_elab.specs.Ends.{IsReady, SinkAnswers, SourceStays};
+ghost use Rattle.fratx_elab.specs.EndsLeft.{LeavesEnds, KeepsLimits, GoesOn};
+ghost use Rattle.fratx_elab.specs.Outcomes.{IsElaborated, IsCutOff, Kept, Turns, text_refused, step_refused, what_follows_of};
+ghost use Rattle.fratx_elab.specs.Takes.{CanBePrinted, HasRoom, CanTakeNext};
 ghost use Rattle.fratx_elab.specs.Writing.{WritesDown};
-ghost use Rattle.step_text.specs.Sinks.{SinkFaultsAs, HasFailedAs};
 
 use crate::ends::ElabEnds;
 use crate::naming::Names;
@@ -28,17 +24,11 @@ use step_text::{SinkFault, SpareLists, TextRefusal};
 /// Hands a step to the sink, if there is one.
 fn write<E: ElabEnds>(ends: &mut E, written: &Option<ProofStep>) -> Result<(), SinkFault>
     requires text { CanBePrinted written.now }
-    requires going { E.has_failed ends.old ≡ false }
-    ensures told { WritesDown (E.steps ends.old) (E.steps ends.new) (E.torn ends.new) written.now result }
-    ensures faults { SinkFaultsAs result (E.write_faults ends.old) (E.write_faults ends.new) }
-    ensures failed { HasFailedAs result (E.has_failed ends.old) (E.has_failed ends.new) }
-    ensures narrows { (text : List ℕ) → E.may_read ends.new text → E.may_read ends.old text }
-    ensures rest { (text : List ℕ) (left : List LogStep) (ending : Ending) → (E.leaves ends.new text left ending → E.leaves ends.old text left ending) × (E.leaves ends.old text left ending → E.leaves ends.new text left ending) }
-    ensures limit { (text : List ℕ) → E.may_read ends.new text → E.passes_limit ends.new text ≡ E.passes_limit ends.old text }
-    ensures spent { E.is_spent ends.new ≡ E.is_spent ends.old }
-    ensures reads { E.read_faults ends.new ≡ E.read_faults ends.old }
-    ensures place { E.place_of ends.new ≡ E.place_of ends.old }
-    ensures frame { E.keeps ends.old ends.new }
+    requires going { E.view.has_failed ends.old ≡ false }
+    ensures told { WritesDown (E.view.steps ends.old) (E.view.steps ends.new) (E.view.torn ends.new) written.now result }
+    ensures sink { SinkAnswers E.view ends.old result ends.new }
+    ensures source { SourceStays E.view ends.old ends.new }
+    ensures frame { E.view.keeps ends.old ends.new }
 {
     match written {
         Some(step) => ends.step(step),
@@ -104,29 +94,14 @@ fn take_next<E: ElabEnds>(
     steps: u64,
 ) -> Result<Option<Elab>, ElabFault>
     requires originals { StandsFor originals.now formula.now }
-    requires clauses { counts.clauses ≡ number_of_clauses formula.now }
-    requires parities { counts.parities ≡ number_of_parities formula.now }
-    requires clause_room { state.old.clauses.last ≤ 2 ^ 60 + steps }
-    requires parity_room { state.old.parities.last ≤ 2 ^ 60 + steps }
-    requires tied { (proof : Tables) × AreTied formula.now state.old.live proof (names_of state.old) }
-    requires fresh { E.is_spent ends.old ≡ false }
-    requires going { E.has_failed ends.old ≡ false }
-    requires count { steps ≤ 2 ^ 62 }
-    ensures turns { (text : List ℕ) (first : E) → E.may_read ends.new text → Kept (λ a. E.leaves a text) E.steps E.torn formula.now first ends.old state.old steps
-        → Turns (λ a. E.leaves a text) E.steps E.torn formula.now first ends.new state.new steps result }
-    ensures narrows { (text : List ℕ) → E.may_read ends.new text → E.may_read ends.old text }
-    ensures clause_room { IfOk result (λ elab. elab ≡ None → state.new.clauses.last ≤ 2 ^ 60 + (steps + 1)) }
-    ensures parity_room { IfOk result (λ elab. elab ≡ None → state.new.parities.last ≤ 2 ^ 60 + (steps + 1)) }
-    ensures fresh { IfOk result (λ elab. elab ≡ None → E.is_spent ends.new ≡ false) }
-    ensures reads { ReadsStand result (E.read_faults ends.old) (E.read_faults ends.new) }
-    ensures writes { WritesStand result (E.write_faults ends.old) (E.write_faults ends.new) }
-    ensures failed { IfOk result (λ _. E.has_failed ends.new ≡ E.has_failed ends.old) }
-    ensures rises { IfOk result (λ elab. elab ≡ None → E.place_of ends.old < E.place_of ends.new) }
-    ensures far { E.place_of ends.new < 2 ^ 62 }
-    ensures limit { (text : List ℕ) → E.may_read ends.new text → E.passes_limit ends.new text ≡ E.passes_limit ends.old text }
-    ensures cause { (text : List ℕ) → E.may_read ends.new text → IfErr result (HasCause (E.passes_limit ends.old text) (E.read_faults ends.old) (E.read_faults ends.new) (E.write_faults ends.old) (E.write_faults ends.new)) }
-    ensures long { IfErr result (IsTooLongBy (E.stuck ends.new)) }
-    ensures frame { E.keeps ends.old ends.new }
+    requires counts { AreCounts counts formula.now }
+    requires state { CanTakeNext formula.now state.old steps }
+    requires ready { IsReady E.view ends.old }
+    ensures turns { (text : List ℕ) (first : E) → E.view.may_read ends.new text → Kept (λ a. E.view.leaves a text) E.view.steps E.view.torn formula.now first ends.old state.old steps
+        → Turns (λ a. E.view.leaves a text) E.view.steps E.view.torn formula.now first ends.new state.new steps result }
+    ensures next { IfOk result (λ elab. elab ≡ None → GoesOn E.view ends.old ends.new state.new (steps + 1)) }
+    ensures limits { KeepsLimits E.view ends.old ends.new }
+    ensures ends { LeavesEnds E.view ends.old result ends.new }
 {
     let step = match ends.next_step(&mut state.spare) {
         Ok(Some(step)) => step,
@@ -153,22 +128,13 @@ fn take_all<E: ElabEnds>(
     ends: &mut E,
 ) -> Result<Elab, ElabFault>
     requires originals { StandsFor originals.now formula.now }
-    requires clauses { counts.clauses ≡ number_of_clauses formula.now }
-    requires parities { counts.parities ≡ number_of_parities formula.now }
-    requires clause_room { state.old.clauses.last ≤ 2 ^ 60 }
-    requires parity_room { state.old.parities.last ≤ 2 ^ 60 }
-    requires kept { (text : List ℕ) → E.may_read ends.old text → Kept (λ a. E.leaves a text) E.steps E.torn formula.now ends.old ends.old state.old 0 }
-    requires fresh { E.is_spent ends.old ≡ false }
-    requires going { E.has_failed ends.old ≡ false }
-    ensures judged { (text : List ℕ) → E.may_read ends.new text → IfOk result (IsElaborated (λ a. E.leaves a text) E.steps E.torn formula.now ends.old ends.new) }
-    ensures cut_off { IfErr result (IsCutOff E.steps E.torn formula.now ends.old ends.new) }
-    ensures narrows { (text : List ℕ) → E.may_read ends.new text → E.may_read ends.old text }
-    ensures cause { (text : List ℕ) → E.may_read ends.new text → IfErr result (HasCause (E.passes_limit ends.old text) (E.read_faults ends.old) (E.read_faults ends.new) (E.write_faults ends.old) (E.write_faults ends.new)) }
-    ensures long { IfErr result (IsTooLongBy (E.stuck ends.new)) }
-    ensures reads { ReadsStand result (E.read_faults ends.old) (E.read_faults ends.new) }
-    ensures writes { WritesStand result (E.write_faults ends.old) (E.write_faults ends.new) }
-    ensures failed { IfOk result (λ _. E.has_failed ends.new ≡ E.has_failed ends.old) }
-    ensures frame { E.keeps ends.old ends.new }
+    requires counts { AreCounts counts formula.now }
+    requires room { HasRoom state.old 0 }
+    requires kept { (text : List ℕ) → E.view.may_read ends.old text → Kept (λ a. E.view.leaves a text) E.view.steps E.view.torn formula.now ends.old ends.old state.old 0 }
+    requires ready { IsReady E.view ends.old }
+    ensures judged { (text : List ℕ) → E.view.may_read ends.new text → IfOk result (IsElaborated (λ a. E.view.leaves a text) E.view.steps E.view.torn formula.now ends.old ends.new) }
+    ensures cut_off { IfErr result (IsCutOff E.view.steps E.view.torn formula.now ends.old ends.new) }
+    ensures ends { LeavesEnds E.view ends.old result ends.new }
 {
     let mut steps = 0;
     loop {
@@ -193,17 +159,10 @@ pub fn elaborate<E: ElabEnds>(
     formula: &Formula,
     ends: &mut E,
 ) -> Result<Elab, ElabFault>
-    requires fresh { E.is_spent ends.old ≡ false }
-    requires going { E.has_failed ends.old ≡ false }
-    ensures judged { (text : List ℕ) → E.may_read ends.new text → IfOk result (IsElaborated (λ a. E.leaves a text) E.steps E.torn formula.now ends.old ends.new) }
-    ensures cut_off { IfErr result (IsCutOff E.steps E.torn formula.now ends.old ends.new) }
-    ensures narrows { (text : List ℕ) → E.may_read ends.new text → E.may_read ends.old text }
-    ensures cause { (text : List ℕ) → E.may_read ends.new text → IfErr result (HasCause (E.passes_limit ends.old text) (E.read_faults ends.old) (E.read_faults ends.new) (E.write_faults ends.old) (E.write_faults ends.new)) }
-    ensures long { IfErr result (IsTooLongBy (E.stuck ends.new)) }
-    ensures reads { ReadsStand result (E.read_faults ends.old) (E.read_faults ends.new) }
-    ensures writes { WritesStand result (E.write_faults ends.old) (E.write_faults ends.new) }
-    ensures failed { IfOk result (λ _. E.has_failed ends.new ≡ E.has_failed ends.old) }
-    ensures frame { E.keeps ends.old ends.new }
+    requires ready { IsReady E.view ends.old }
+    ensures judged { (text : List ℕ) → E.view.may_read ends.new text → IfOk result (IsElaborated (λ a. E.view.leaves a text) E.view.steps E.view.torn formula.now ends.old ends.new) }
+    ensures cut_off { IfErr result (IsCutOff E.view.steps E.view.torn formula.now ends.old ends.new) }
+    ensures ends { LeavesEnds E.view ends.old result ends.new }
 {
     if formula.clash().is_some() {
         return Ok(Elab::Done(0));

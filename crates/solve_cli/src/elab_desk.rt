@@ -42,31 +42,21 @@ impl<D: Desk> ElabEnds for ElabDesk<'_, '_, D> {
     ghost use Rattle.proof_text.specs.Told.{steps_told, fault_of, TornOn};
     ghost use Rattle.solve_cli.specs.TwoEnds.{ReadsAndPrints, between_itself, between_on};
 
-    ghost may_read = { λ e. IsPossible e.reader.now.bytes (D.outside e.desk.now) };
-
-    ghost leaves = { λ e. SlotLeaves log_steps e.reader.now (D.outside e.desk.now) };
-
-    ghost passes_limit = { λ e. is_too_long e.reader.now.bytes (D.outside e.desk.now) };
-
-    ghost is_spent = { λ e. is_spent_by e.reader.now.refused };
-
-    ghost stuck = { λ e. stuck_by e.reader.now.refused };
-
-    ghost read_faults = { λ e. (D.outside e.desk.now).faults.reads };
-
-    ghost place_of = { λ e. e.reader.now.bytes.place };
-
-    ghost farthest = { λ e. e.reader.now.bytes.limit };
-
-    ghost steps = { λ e. steps_told (D.outside e.desk.now) };
-
-    ghost write_faults = { λ e. fault_of e.failed };
-
-    ghost has_failed = { λ e. e.failed };
-
-    ghost torn = { λ e step. TornOn step (D.outside e.desk.now) };
-
-    ghost keeps = { λ a b. (b.reader.ghost_name ≡ a.reader.ghost_name) × (b.desk.ghost_name ≡ a.desk.ghost_name) × ReadsAndPrints a.reader.now.bytes a.failed (D.outside a.desk.now) b.reader.now.bytes b.failed (D.outside b.desk.now) };
+    ghost view = { record {
+      may_read = λ e. IsPossible e.reader.now.bytes (D.outside e.desk.now);
+      leaves = λ e. SlotLeaves log_steps e.reader.now (D.outside e.desk.now);
+      passes_limit = λ e. is_too_long e.reader.now.bytes (D.outside e.desk.now);
+      is_spent = λ e. is_spent_by e.reader.now.refused;
+      stuck = λ e. stuck_by e.reader.now.refused;
+      read_faults = λ e. (D.outside e.desk.now).faults.reads;
+      place = λ e. e.reader.now.bytes.place;
+      farthest = λ e. e.reader.now.bytes.limit;
+      steps = λ e. steps_told (D.outside e.desk.now);
+      write_faults = λ e. fault_of e.failed;
+      has_failed = λ e. e.failed;
+      torn = λ e step. TornOn step (D.outside e.desk.now);
+      keeps = λ a b. (b.reader.ghost_name ≡ a.reader.ghost_name) × (b.desk.ghost_name ≡ a.desk.ghost_name) × ReadsAndPrints a.reader.now.bytes a.failed (D.outside a.desk.now) b.reader.now.bytes b.failed (D.outside b.desk.now);
+    } };
 
     fn next_step(&mut self, spare: &mut SpareLists) -> Result<Option<LogStep>, TextRefusal> {
         self.reader.next_from(spare, self.desk)

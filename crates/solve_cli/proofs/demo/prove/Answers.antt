@@ -21,4 +21,4 @@ returns-in-Ok-Done-clause-proof c =
     (subst (λ (r : Elab). Elaborates f c.into_steps.result c.make.result proof r) c.in-Ok-Done.field-0-is (c.in-Ok-Done.ensures.judged [] tt))
 
 pub unreachable-requires-in-Err-Read : goal.unreachable-requires-in-Err-Read
-unreachable-requires-in-Err-Read c = not_read_from c.in-Err-Read.field-0 (Some false) 0 0 c.in-Err-Read.field-0-is (c.in-Err-Read.ensures.cause [] tt)
+unreachable-requires-in-Err-Read c = not_read_from c.in-Err-Read.field-0 (Some false) 0 0 c.in-Err-Read.field-0-is (c.in-Err-Read.ensures.ends.cause [] tt)

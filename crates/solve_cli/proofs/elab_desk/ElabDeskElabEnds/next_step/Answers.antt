@@ -14,25 +14,23 @@ invariant_of-self g c =
     let frame = frame_of s.reader.now.bytes o c.next_from.result c.next_from.new.self.bytes p c.next_from.ensures.kept c.next_from.ensures.counted c.next_from.ensures.past in
     record { started = still_started s.reader.now.bytes o c.next_from.new.self.bytes p frame s.started; whole = λ h. whole_still s.reader.now.bytes.slot frame.got o p frame.read ∙ s.whole h }
 
-pub returns-clause-step : goal.returns-clause-step
-returns-clause-step g c = λ text may. gives_as (PairLeaves log_steps text) (λ e. (e.reader.now, g.D.Desk.outside e.desk.now)) c.args.self.now _ c.next_from.result (c.next_from.ensures.step text may)
+pub returns-clause-texts : goal.returns-clause-texts
+returns-clause-texts g c = λ text may.
+    let narrows = c.next_from.ensures.narrows text may in
+    record {
+      step = gives_as (PairLeaves log_steps text) (λ e. (e.reader.now, g.D.Desk.outside e.desk.now)) c.args.self.now _ c.next_from.result (c.next_from.ensures.step text may);
+      narrows = narrows.0;
+      limit = narrows.1;
+      long = narrows.2;
+    }
 
-pub returns-clause-narrows : goal.returns-clause-narrows
-returns-clause-narrows g c = λ text may. (c.next_from.ensures.narrows text may).0
-
-pub returns-clause-limit : goal.returns-clause-limit
-returns-clause-limit g c = λ text may. (c.next_from.ensures.narrows text may).1
-
-pub returns-clause-long : goal.returns-clause-long
-returns-clause-long g c = λ text may. (c.next_from.ensures.narrows text may).2
-
-pub returns-clause-steps_stay : goal.returns-clause-steps_stay
-returns-clause-steps_stay g c =
+pub returns-clause-sink : goal.returns-clause-sink
+returns-clause-sink g c =
     let s = c.args.self.now.reader.now.bytes in
     let o = g.D.Desk.outside c.args.self.now.desk.now in
     let p = g.D.Desk.outside c.next_from.new.desk in
     let frame = frame_of s o c.next_from.result c.next_from.new.self.bytes p c.next_from.ensures.kept c.next_from.ensures.counted c.next_from.ensures.past in
-    steps_still s.slot frame.got o p frame.read
+    record { steps = steps_still s.slot frame.got o p frame.read; faults = refl; failed = refl }
 
 pub returns-clause-frame : goal.returns-clause-frame
 returns-clause-frame g c =
