@@ -50,6 +50,7 @@ impl NameSet {
     }
 
     /// Puts a name in.
+    #[inline(always)]
     pub(crate) fn insert(&mut self, kind: Kind, id: u64) -> Result<(), AllocError>
         ensures { OnOk result (Has self.new (λ name. same_name name (name_of kind id) || has_name self.old name)) }
     {

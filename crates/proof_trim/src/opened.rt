@@ -35,6 +35,7 @@ pub(crate) fn code_of(kind: StepKind) -> u64
 }
 
 /// The kind with this number.
+#[inline(always)]
 fn kind_of(code: u64) -> StepKind
     ensures { result ≡ kind_of code }
 {
@@ -105,6 +106,7 @@ impl Model for OpenedStep {
 }
 
 /// The head of the step whose integers lie from start up to end.
+#[inline(always)]
 pub(crate) fn head_at(packed: &Integers, start: usize, end: usize) -> StepHead
     requires low { start + 3 ≤ end }
     requires high { end ≤ length packed.now }

@@ -13,6 +13,7 @@ pub(crate) struct Put {
 }
 
 /// What a step of this kind and id puts, if it is no deletion.
+#[inline(always)]
 pub(crate) fn put_by(kind: StepKind, id: u64) -> Option<Put>
     ensures { result ≡ put_by kind id }
 {

@@ -122,6 +122,7 @@ fn pack_with_end(
 }
 
 /// Where the step at a place begins.
+#[inline(always)]
 fn start_of(ends: &Integers, place: usize) -> usize
     requires { place < length ends.now }
     ensures { result ≡ start_at 0 ends.now place }
@@ -160,6 +161,7 @@ impl StepStore {
     }
 
     /// Takes a copy of the step at a place, from 0.
+    #[inline(always)]
     pub(crate) fn open_at(&self, place: usize, opened: &mut OpenedStep)
         requires place { place < length self.now }
         requires room { AllByRecursion (FitsIn opened.old.room) self.now }
@@ -172,6 +174,7 @@ impl StepStore {
     }
 
     /// What the step at a place, from 0, puts, if it is no deletion. Its lists are not touched.
+    #[inline(always)]
     pub(crate) fn put_at(&self, place: usize) -> Option<Put>
         requires { place < length self.now }
         ensures { result ≡ put_of (step_at self.now place) }
