@@ -7,7 +7,7 @@ ghost use Rattle.cx_base.specs.declared.literal.TheConstants.{MAX_VARIABLE};
 use crate::driven::{Act, trace_of};
 use crate::parities::{Numbers, any_parities};
 use cx_base::ParityList;
-use gauss_incremental::Incremental;
+use gauss_incremental::{Incremental, ShortFirst};
 use gauss_jordan::Scratch;
 use parity_engine::ParityEngine;
 use std::alloc::{AllocError, Global};
@@ -52,7 +52,7 @@ fn trace<P: ParityEngine + Drop>(
     trace_of::<P>(alloc, vars, parities, acts, &mut told)
 }
 
-/// Whether both engines know the same after the same acts over these parities.
+/// Whether the engines know the same after the same acts over these parities.
 fn agree_on(
     alloc: Global,
     vars: u32,
@@ -64,7 +64,8 @@ fn agree_on(
 {
     let first = trace::<Scratch>(alloc, vars, parities, acts)?;
     let second = trace::<Incremental>(alloc, vars, parities, acts)?;
-    Ok(first.as_str() == second.as_str())
+    let third = trace::<ShortFirst>(alloc, vars, parities, acts)?;
+    Ok(first.as_str() == second.as_str() && first.as_str() == third.as_str())
 }
 
 /// As `agree_on`, over parities and acts that follow from the seed.

@@ -7,7 +7,7 @@ ghost use Rattle.cx_base.specs.declared.literal.TheConstants.{MAX_VARIABLE};
 use crate::driven::{Act, Told, trace_of};
 use crate::parities::{parities_of, yes};
 use cx_base::{Lit, ParityList};
-use gauss_incremental::Incremental;
+use gauss_incremental::{Incremental, ShortFirst};
 use gauss_jordan::Scratch;
 use parity_engine::ParityEngine;
 use std::alloc::{AllocError, Global};
@@ -120,13 +120,14 @@ struct Case<'a> {
     followed: &'a [&'a [&'a str]],
 }
 
-/// Writes what both engines know and tell, where that is not what is wanted.
+/// Writes what the engines know and tell, where that is not what is wanted.
 fn put_others(alloc: Global, others: &mut String, case: &Case) -> Result<(), AllocError> {
     let vars = case.vars.clamp(1, 100);
     let parities = parities_of(alloc, vars, case.parities)?;
     let acts = acts_of(alloc, case.steps)?;
     put_other::<Scratch>(alloc, others, vars, &parities, &acts, case)?;
-    put_other::<Incremental>(alloc, others, vars, &parities, &acts, case)
+    put_other::<Incremental>(alloc, others, vars, &parities, &acts, case)?;
+    put_other::<ShortFirst>(alloc, others, vars, &parities, &acts, case)
 }
 
 /// As `put_others`, of all cases.

@@ -8,7 +8,7 @@ ghost use Rattle.xor_reason.specs.Laws.{StandsOn};
 use crate::parities::{parities_of, yes};
 use cx_base::{Lit, ParityList, Row, Var};
 use cx_trail::{Reason, Trail};
-use gauss_incremental::Incremental;
+use gauss_incremental::{Incremental, ShortFirst};
 use gauss_jordan::Scratch;
 use parity_engine::{ParityEngine, ParityEvent};
 use std::alloc::{AllocError, Global};
@@ -97,6 +97,7 @@ fn gives_triple<P: ParityEngine + Drop>(alloc: Global) -> Result<bool, AllocErro
 fn two_of_three_are_false(rt: HostRuntime) -> Result<(), Fail> {
     let scratch = gives_triple::<Scratch>(rt.alloc())?;
     let incremental = gives_triple::<Incremental>(rt.alloc())?;
-    assert_eq!(rt; (scratch, incremental), (true, true));
+    let short_first = gives_triple::<ShortFirst>(rt.alloc())?;
+    assert_eq!(rt; (scratch, incremental, short_first), (true, true, true));
     Ok(())
 }

@@ -4,7 +4,7 @@ ghost use Rattle.std.specs.Prelude.{◌≤◌, ◌^◌};
 use crate::drawing::some_formula;
 use cdcl_core::solve_core;
 use cx_base::{Formula, IntList, Lit, LogEvent, LogStep, Var};
-use gauss_incremental::Incremental;
+use gauss_incremental::ShortFirst;
 use log_text::ListLog;
 use plain_tests::fresh::is_fresh;
 use proof_rules::{Kind, Live};
@@ -147,7 +147,7 @@ fn searched(alloc: Global, formula: &Formula) -> Result<Option<(u64, u64)>, Allo
         return Ok(None);
     }
     let mut log = ListLog::make(alloc);
-    if solve_core::<Incremental, ListLog>(alloc, formula, 100, &mut log).is_err() {
+    if solve_core::<ShortFirst, ListLog>(alloc, formula, 100, &mut log).is_err() {
         return Ok(None);
     }
     judged(alloc, formula, log.events())

@@ -3,7 +3,7 @@ ghost use Rattle.std.specs.Prelude.{◌≤◌, ◌^◌};
 
 use cdcl_core::{SearchOutcome, solve_core};
 use cx_base::Formula;
-use gauss_incremental::Incremental;
+use gauss_incremental::ShortFirst;
 use log_text::ListLog;
 use std::alloc::{AllocError, Global};
 
@@ -28,7 +28,7 @@ pub(crate) fn searched(
         return Ok(None);
     }
     let mut log = ListLog::make(alloc);
-    let answer = match solve_core::<Incremental, ListLog>(alloc, formula, budget, &mut log) {
+    let answer = match solve_core::<ShortFirst, ListLog>(alloc, formula, budget, &mut log) {
         Ok(SearchOutcome::Sat(_)) => SearchAnswer::Solved,
         Ok(SearchOutcome::Unsat { failed: _ }) => SearchAnswer::Refuted,
         Ok(SearchOutcome::Unknown { conflicts: _ }) => SearchAnswer::Unknown,

@@ -6,7 +6,7 @@ use crate::expecting::{put_unless, run_task};
 use crate::pigeons::WIDE;
 use cdcl_core::{SearchOutcome, solve_core};
 use cx_base::Formula;
-use gauss_incremental::Incremental;
+use gauss_incremental::ShortFirst;
 use inst_gen::{InstanceKind, planted};
 use log_text::NoLog;
 use std::alloc::{AllocError, Global};
@@ -148,7 +148,7 @@ fn finds_values(alloc: Global, formula: &Formula, conflicts: u64) -> bool
         return false;
     }
     let mut log = NoLog;
-    match solve_core::<Incremental, NoLog>(alloc, formula, conflicts, &mut log) {
+    match solve_core::<ShortFirst, NoLog>(alloc, formula, conflicts, &mut log) {
         Ok(SearchOutcome::Sat(values)) => formula.meets(values.as_slice()),
         _ => false,
     }

@@ -4,7 +4,7 @@ ghost use Rattle.cx_base.specs.declared.literal.TheConstants.{MAX_VARIABLE};
 
 use cdcl_core::{SearchOutcome, solve_core};
 use cx_base::{Formula, FormulaBuilder, Lit, Var};
-use gauss_incremental::Incremental;
+use gauss_incremental::ShortFirst;
 use log_text::NoLog;
 use std::alloc::{AllocError, Global};
 use std::test::Fail;
@@ -40,7 +40,7 @@ fn found(alloc: Global, formula: &Formula) -> Result<String, AllocError> {
         return Ok(String::new(alloc));
     }
     let mut log = NoLog;
-    match solve_core::<Incremental, NoLog>(alloc, formula, 1, &mut log) {
+    match solve_core::<ShortFirst, NoLog>(alloc, formula, 1, &mut log) {
         Ok(SearchOutcome::Sat(values)) => written(alloc, values.as_slice()),
         _ => Ok(String::new(alloc)),
     }

@@ -13,7 +13,7 @@ use cdcl_core::{CoreFault, SearchOutcome as Answer, solve_core};
 use cx_base::Formula;
 use cx_desk::Desk;
 use cx_words::Name;
-use gauss_incremental::Incremental;
+use gauss_incremental::ShortFirst;
 use log_text::{DeskLog, ListLog};
 use std::alloc::{AllocError, Global};
 
@@ -74,7 +74,7 @@ pub(crate) fn search_on<D: Desk>(
     ensures { (limit : ℕ) → Acts limit (D.outside desk.old) (D.outside desk.new) (λ w. SearchesOn formula.now conflicts (seen w (D.outside desk.old)) result (seen w (D.outside desk.new))) }
 {
     let mut log = DeskLog::new(desk);
-    let answer = solve_core::<Incremental, DeskLog<D>>(alloc, formula, conflicts, &mut log);
+    let answer = solve_core::<ShortFirst, DeskLog<D>>(alloc, formula, conflicts, &mut log);
     answered(alloc, formula, answer)
 }
 
@@ -90,7 +90,7 @@ pub(crate) fn search(
     requires fresh { log.old ≡ [] }
     ensures { IfOk result (ComesTo formula.now conflicts log.new) }
 {
-    let answer = solve_core::<Incremental, ListLog>(alloc, formula, conflicts, log);
+    let answer = solve_core::<ShortFirst, ListLog>(alloc, formula, conflicts, log);
     let _with_texts = log.events();
     match answered(alloc, formula, answer) {
         Ok(ending) => Ok(ending),
