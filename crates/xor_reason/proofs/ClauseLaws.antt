@@ -51,7 +51,7 @@ distinct_rising : (least : ℕ) (vs : List ℕ) → Rises least vs → Distinct 
 distinct_rising least [] rise = tt
 distinct_rising least (v ∷ vs) rise = (none_below (v + 1) vs v rise.1 (omega arith), distinct_rising (v + 1) vs rise.1)
 
-occurs_rising : (least : ℕ) (lits : List Literal) (y : ℕ) → Rises least (variables lits) → occurs_odd lits y ≡ list_any (λ z. nat_eq z y) (variables lits)
+pub occurs_rising : (least : ℕ) (lits : List Literal) (y : ℕ) → Rises least (variables lits) → occurs_odd lits y ≡ list_any (λ z. nat_eq z y) (variables lits)
 occurs_rising least [] y rise = refl
 occurs_rising least (l ∷ lits) y rise =
     is_odd-count (λ (m : Literal). nat_eq m.variable y) l lits

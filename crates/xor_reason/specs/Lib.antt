@@ -1,3 +1,5 @@
 pub mod LiteralChoice
 pub mod ReasonClause
 pub mod Laws
+pub mod Reasons
+pub mod Sums

@@ -4,5 +4,7 @@
 pub mod laws;
 mod literals;
 mod reason;
+mod sums;
 
 pub use reason::{ReasonOf, reason_clause};
+pub use sums::sum_of_reasons;
