@@ -11,6 +11,7 @@ pub mod RowReasons
 pub mod UnitSteps
 pub mod UnitParities
 pub mod LateUnits
+pub mod BesideUnits
 pub mod EngineLaws
 pub mod Rounds
 pub mod StartLaws

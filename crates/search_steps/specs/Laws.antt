@@ -10,7 +10,7 @@ use Rattle.cx_base.specs.declared.steps.LogStep.{LogStep}
 use Rattle.cx_base.specs.declared.steps.LogStep.TheVariants.{Original, OriginalParity, ClauseWithHints, Parity, ClauseOfParity, ParityOfClauses, Delete, DeleteParity}
 use Rattle.cx_base.specs.declared.steps.LogEvent.{LogEvent}
 use Rattle.cx_base.specs.declared.steps.LogEvent.TheVariants.{Step}
-use Rattle.cx_semantics.specs.Chain.{has_literal, is_inside, negations, same_literals}
+use Rattle.cx_semantics.specs.Chain.{has_literal, is_inside, negations, same_literals, chain, right}
 use Rattle.cx_semantics.specs.Fresh.{IsLive}
 use Rattle.cx_base.specs.Integers.{literal, literals, integers_of}
 use Rattle.cx_semantics.specs.Judging.{IsRight, IsOpen}
@@ -38,7 +38,7 @@ use Rattle.search_steps.specs.Schedule.{IsInReduction}
 use Rattle.search_steps.specs.Recovering.{IsParityOf, HasRecovered, SettledWithRecovered}
 use Rattle.search_steps.specs.Search.{Search, IsSearch, IsServed, IsTidy, IsLearnedOf, told, decided_on, forced_on, jumped, marked}
 use Rattle.search_steps.specs.Start.{IsBegun, start}
-use Rattle.search_steps.specs.Tied.{IsTied, AreForcedBehind, IsLiveSet, Mirrors, ForcesOn, IsQuietOn, AreOthersFalseOn, IsFalsifiedOn}
+use Rattle.search_steps.specs.Tied.{IsTied, AreForcedBehind, IsLiveSet, IsLiveOr, Mirrors, ForcesOn, IsQuietOn, AreOthersFalseOn, IsFalsifiedOn}
 use Rattle.cx_base.specs.Lines.{Line}
 use Rattle.search_steps.specs.TidyLines.{TidiedInTime, LineFits, marks_in, tidy_lines_in}
 use Rattle.search_steps.specs.Trail.{Entry, by_clause, by_row, rests_on, held, all_held, back_to, level_of, IsUnassigned, Forces}
@@ -165,6 +165,13 @@ abbrev pub LateUnitsKeep : Type 0
 LateUnitsKeep = OfSearch (λ formula parities s.
     (n : ℕ) (z : ℤ) (hints : List ℤ) → IsAddition formula s.moment.tables.clauses n (z ∷ []) → IsFalse (derives_ending_clause formula (ClauseWithHints n (z ∷ []) hints)) → IsFalse s.moment.awaits
     → IsTrue (has_literal (held 0 s.trail) (literal z)) → (trail : TrailState) (clause resolved : List Literal) → Follows trail clause (IsLiveSet s.moment.tables.clauses) resolved [] → IsTrue (has_literal clause (negate (literal z)))
+    → IsSearch formula parities (told s (Step (ClauseWithHints n (z ∷ []) hints))))
+
+-- and at level 0 that of a literal whose negation is in a clause that is not told, where a chain by that clause and live ones is right
+abbrev pub UnitsBesideKeep : Type 0
+UnitsBesideKeep = OfSearch (λ formula parities s.
+    s.quiet_levels ≡ 0 → (n : ℕ) (z : ℤ) (hints : List ℤ) → IsAddition formula s.moment.tables.clauses n (z ∷ []) → IsFalse (derives_ending_clause formula (ClauseWithHints n (z ∷ []) hints)) → IsFalse s.moment.awaits
+    → (clause : List Literal) (clauses : List (List Literal)) → AllByRecursion (IsLiveOr s.moment.tables.clauses clause) clauses → ((assumed : List Literal) → chain assumed clauses ≡ right) → IsTrue (has_literal clause (negate (literal z)))
     → IsSearch formula parities (told s (Step (ClauseWithHints n (z ∷ []) hints))))
 
 -- the mark of a counted conflict keeps the search

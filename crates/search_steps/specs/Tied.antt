@@ -2,7 +2,7 @@
 use Rattle.std.specs.Prelude.{◌≡◌, ◌≢◌, ◌⊎◌, ℕ, ◌<◌, ⊤, Some, List, [], ◌∷◌, ◌++◌, IsTrue, IsFalse, Contains}
 use Rattle.cx_base.specs.Literals.{Literal, same_literal}
 use Rattle.cx_semantics.specs.Chain.{has_literal, same_literals}
-use Rattle.cx_semantics.specs.Fresh.{IsLive}
+use Rattle.cx_semantics.specs.Fresh.{IsLive, is_tautology}
 use Rattle.cx_semantics.specs.Tables.{Table, get}
 use Rattle.cx_trail.specs.declared.entry.Entry.{Entry as TrailEntry}
 use Rattle.cx_trail.specs.Sequence.{TrailState, IsTrueIn, IsFalseIn, IsOpenIn, IsTrail as IsCodeTrail}
@@ -16,6 +16,10 @@ IsTied (e ∷ es) entries = (before : List TrailEntry) × (i : TrailEntry) × (e
 -- some live clause has the same literals
 abbrev pub IsLiveSet : Table → List Literal → Type 0
 IsLiveSet table lits = (clause : List Literal) × IsLive table clause × IsTrue (same_literals lits clause)
+
+-- so it is, and the list is no tautology; or it is this clause
+abbrev pub IsLiveOr : Table → List Literal → List Literal → Type 0
+IsLiveOr table clause lits = (IsLiveSet table lits × IsFalse (is_tautology lits)) ⊎ (lits ≡ clause)
 
 -- the code's trail is sound and has the search's literals and levels
 pub record Mirrors (es : List Entry) (t : TrailState) : Type 0 where
