@@ -22,7 +22,6 @@ use Rattle.cx_semantics.specs.Marked.{Moment, first_moment, after_event, StepFit
 use Rattle.cx_semantics.specs.ProofRules.{all_met, IsSum}
 use Rattle.cx_semantics.specs.Settled.{IsClauseOf}
 use Rattle.cx_semantics.specs.Tables.{Table, get, is_live, named}
-use Rattle.cx_base.proofs.LiteralLaws.{are_one}
 use Rattle.cx_semantics.proofs.Closure.{chain_or_closed, has_by_inside}
 use Rattle.cx_semantics.proofs.JudgingLaws.{runs_push}
 use Rattle.cx_semantics.proofs.MarkedLaws.{events_go_on}
@@ -31,7 +30,8 @@ use Rattle.search_steps.specs.Trail.{Entry, by_clause, held, all_held, IsTrail, 
 use Rattle.search_steps.specs.Quiet.{IsOfParities}
 use Rattle.search_steps.specs.Search.{Search, IsLog, Serves, IsSearch, told, marked, IsServed, IsLearnedOf}
 use Rattle.search_steps.specs.LogSteps.{IsNoReason, IsAddition, RestOnClauses, IsRowOf, IsClauseOfRow}
-use Rattle.conflict_learn.proofs.ChainOfResolutions.{by_cases}
+use Rattle.conflict_learn.proofs.ChainOfResolutions.{negated_in}
+use Rattle.search_steps.specs.Hints.{AreHintsFor}
 use Rattle.search_steps.specs.Schedule.{IsInReduction, moment_after}
 use Rattle.search_steps.proofs.ScheduleLaws.{MayFollow, moment_is, scheduled_then, mark_may_follow}
 use Rattle.search_steps.proofs.Sets.{not_both, true_rests}
@@ -108,22 +108,12 @@ module _ (table : Table) (IsRow : List Literal → Type 0) (older : List Entry) 
   forced_is_reached : (l : Literal) → Forces clause (all_held older) l → IsReached table l
   forced_is_reached l f u units none = takes_forced table u clause l units none live (λ m h n. has_by_inside (all_held older) u (negate m) (takes_all table IsRow u units none older t r) (f.others_false m h n))
 
-  -- a set with its negation falsifies the clause, so in_tail is a right chain
-  pub forced_has_chain : (l : Literal) → Forces clause (all_held older) l → HasChain table (l ∷ [])
-  forced_has_chain l f = elim (chain_or_closed table (l ∷ [])) [
-    | inl h ↦ h
-    | inr c ↦ absurd (not_both (is_falsified c.u clause) (all_by (λ m. has_literal c.u (negate m)) clause (λ m h. by_cases (same_literal l m)
-        (λ e. ap (λ x. has_literal c.u (negate x)) (sym (are_one l m e)) ∙ (and_parts (has_literal c.u (negate l)) true c.has_assumed).0)
-        (λ n. has_by_inside (all_held older) c.u (negate m) (takes_all table IsRow c.u c.units c.no_conflict older t r) (f.others_false m h n))))
-        (c.no_conflict clause live))
-  ]
-
   -- a falsified clause has a right chain for the empty clause
   pub falsified_has_chain : is_inside (negations clause) (all_held older) ≡ true → HasChain table []
   falsified_has_chain h = elim (chain_or_closed table []) [
     | inl k ↦ k
     | inr c ↦ absurd (not_both (is_falsified c.u clause)
-        (all_by (λ m. has_literal c.u (negate m)) clause (λ m k. has_by_inside (all_held older) c.u (negate m) (takes_all table IsRow c.u c.units c.no_conflict older t r) (Rattle.conflict_learn.proofs.ChainOfResolutions.negated_in clause (all_held older) m h k)))
+        (all_by (λ m. has_literal c.u (negate m)) clause (λ m k. has_by_inside (all_held older) c.u (negate m) (takes_all table IsRow c.u c.units c.no_conflict older t r) (negated_in clause (all_held older) m h k)))
         (c.no_conflict clause live))
   ]
 
@@ -165,14 +155,13 @@ module _ (formula : Problem) (parities : List (List Literal)) (s : Search) (ok :
       ok.serves)
 
   -- and of one that a live clause forces
-  pub unit_keeps : (n : ℕ) (z : ℤ) (hints : List ℤ) (older : List Entry) (clause : List Literal) → IsAddition formula s.moment.tables.clauses n (z ∷ []) → derives_ending_clause formula (ClauseWithHints n (z ∷ []) hints) ≡ false → s.moment.awaits ≡ false
+  pub unit_keeps : (n : ℕ) (z : ℤ) (hints : List ℤ) (older : List Entry) (clause : List Literal) → IsAddition formula s.moment.tables.clauses n (z ∷ []) → AreHintsFor s.moment.tables.clauses (Rattle.cx_base.specs.Integers.literal z ∷ []) hints → derives_ending_clause formula (ClauseWithHints n (z ∷ []) hints) ≡ false → s.moment.awaits ≡ false
       → IsTrail s.moment.tables.clauses (IsOfParities formula.variables parities) older
       → IsUnitOf s (Rattle.cx_base.specs.Integers.literal z) older clause → IsSearch formula parities (told s (Step (ClauseWithHints n (z ∷ []) hints)))
-  unit_keeps n z hints older clause a goes served t u =
+  unit_keeps n z hints older clause a right goes served t u =
       let l = Rattle.cx_base.specs.Integers.literal z in
       let IsRow = IsOfParities formula.variables parities in
-      reached_unit_keeps n z hints a goes served (forced_has_chain s.moment.tables.clauses IsRow older t u.on_clauses clause u.live l u.forces)
-      (forced_is_reached s.moment.tables.clauses IsRow older t u.on_clauses clause u.live l u.forces) u.level_0
+      reached_unit_keeps n z hints a goes served (right.ids, right.live, right.chain) (forced_is_reached s.moment.tables.clauses IsRow older t u.on_clauses clause u.live l u.forces) u.level_0
 
   -- the sum of live parities
   pub live_sum_keeps : (n : ℕ) (zs : List ℤ) (ids : List ℕ) → IsAddition formula s.moment.tables.parities n zs → AreLive s.moment.tables.parities ids → IsSum (literals zs) (named s.moment.tables.parities ids) → IsSearch formula parities (told s (Step (Parity n zs ids)))

@@ -30,6 +30,7 @@ use Rattle.parity_engine.specs.declared.event.ParityEvent.{ParityEvent}
 use Rattle.parity_engine.specs.declared.state.Held.{Held}
 use Rattle.parity_engine.specs.State.{State, IsSilent, Reports, assigned, back, fresh, known, held_at, pushed as opened}
 use Rattle.search_steps.specs.Engine.{HoldsValues}
+use Rattle.search_steps.specs.Hints.{AreHintsFor}
 use Rattle.search_steps.specs.Ids.{ReasonsBelow, AreRowIds, HasFreeSums, IsRanged}
 use Rattle.search_steps.specs.LogSteps.{IsAddition, RestOnClauses, IsRowOf, IsClauseOfRow, IsRowReason, IsNoReason, IsEnded, AreTemporary, row_events, all_told, deleted, unit_told, after_round}
 use Rattle.search_steps.specs.Propagated.{IsPropagated}
@@ -153,11 +154,11 @@ abbrev pub SumDeletionsKeep : Type 0
 SumDeletionsKeep = OfSearch (λ formula parities s.
     (n : ℕ) (zs : List ℤ) → length parities < n → IsSearch formula parities (told s (Step (DeleteParity n zs))))
 
--- telling the unit clause of a literal of level 0 keeps the search, and the literal rests on it from then on
+-- telling the unit clause of a literal of level 0 with right hints keeps the search, and the literal rests on it from then on
 abbrev pub UnitsKeep : Type 0
 UnitsKeep = OfSearch (λ formula parities s.
     (n : ℕ) (z : ℤ) (hints : List ℤ) (newer older : List Entry) (e : Entry) → s.trail ≡ newer ++ e ∷ older → e.level ≡ 0 → literal z ≡ e.literal → IsAddition formula s.moment.tables.clauses n (z ∷ [])
-    → IsFalse (derives_ending_clause formula (ClauseWithHints n (z ∷ []) hints)) → IsFalse s.moment.awaits → RestOnClauses older → (clause : List Literal) → IsLive s.moment.tables.clauses clause → Forces clause (all_held older) e.literal
+    → AreHintsFor s.moment.tables.clauses (literal z ∷ []) hints → IsFalse (derives_ending_clause formula (ClauseWithHints n (z ∷ []) hints)) → IsFalse s.moment.awaits → RestOnClauses older → (clause : List Literal) → IsLive s.moment.tables.clauses clause → Forces clause (all_held older) e.literal
     → IsSearch formula parities (unit_told s n z hints newer e older))
 
 -- and that of a literal of level 0 whose negation is in a clause all of whose literals were traced to level 0
