@@ -22,6 +22,7 @@ pub mod Decisions
 pub mod FullTrails
 pub mod DeletedRows
 pub mod Tellings
+pub mod UnitHints
 pub mod UnitTies
 pub mod UnitLaws
 pub mod LowIds

@@ -17,7 +17,7 @@ use Rattle.cdcl_search.specs.Tells.{IsId, AreIdsFrom}
 use Rattle.cdcl_search.specs.Ties.{TiesFrom, SearchStands, AreUnits, IsNamedBy, first_row_id}
 use Rattle.cdcl_search.proofs.TableLaws.{no_clause}
 
-index_is : (xs : List ℕ) (k d e : ℕ) → k < length xs → slice_index_or xs k d ≡ get_or xs k e
+pub index_is : (xs : List ℕ) (k d e : ℕ) → k < length xs → slice_index_or xs k d ≡ get_or xs k e
 index_is [] k d e less = absurd (omega (arith, less))
 index_is (x ∷ xs) zero d e less = refl
 index_is (x ∷ xs) (suc k) d e less = index_is xs k d e (omega (arith, less))

@@ -5,6 +5,9 @@ use Rattle.cx_base.specs.Literals.{Literal, negate, same_literal}
 use Rattle.cx_base.proofs.LiteralLaws.{negate-negate, same_literal-itself}
 use Rattle.cx_base.specs.Problem.{Problem}
 use Rattle.cx_semantics.specs.Chain.{has_literal}
+use Rattle.cx_semantics.specs.Tables.{get}
+use Rattle.cx_semantics.proofs.Closure.{inside_itself}
+use Rattle.std.proofs.lemmas.Bool.{and_from}
 use Rattle.cx_trail.specs.declared.entry.Reason.{Reason}
 use Rattle.cx_trail.specs.declared.entry.Reason.TheVariants as reason
 use Rattle.cx_trail.specs.Sequence.{TrailState, IsTrail, entry_at}
@@ -17,10 +20,10 @@ use Rattle.search_steps.specs.Search.{Search}
 use Rattle.search_steps.specs.Tied.{IsLiveSet}
 use Rattle.search_steps.proofs.Reasons.{live_is_live_set}
 use Rattle.cdcl_search.specs.declared.state.SearchState.{SearchState}
-use Rattle.cdcl_search.specs.Ties.{HaveReasons, HasReasonOf, IsClauseReasonOf, Ties, first_row_id}
+use Rattle.cdcl_search.specs.Ties.{HaveReasons, HasReasonOf, IsClauseReasonOf, IsNamedBy, Ties, first_row_id}
 use Rattle.cdcl_search.specs.Explaining.{IsReasonOf}
 use Rattle.std.specs.Prelude.{Result, Ok, Err, IfOk, OnOk, OnErr}
-use Rattle.cdcl_search.specs.Sources.{IsSourced}
+use Rattle.cdcl_search.specs.Sources.{IsSourced, IsSourcedBy}
 use Rattle.cdcl_search.proofs.RowReasons.{entry_taken}
 
 module _ (t : TrailState) (sound : IsTrail t) (l : Literal) (place : ℕ) (less : place < length t.entries) (at : (entry_at t.entries place).literal ≡ negate (negate l)) where
@@ -70,9 +73,6 @@ stored_is_sourced c r live rows clause is = inl (r, live, is)
 pub stays_in : (xs : List (List Literal)) (y x : List Literal) → Contains xs x → Contains (xs ++ y ∷ []) x
 stays_in xs y x (k, less, e) = (k, let long = length-append xs (y ∷ []) in omega (arith, long, less), get_or-append xs (y ∷ []) x k less ∙ e)
 
-pub last_in : (xs : List (List Literal)) (y : List Literal) → Contains (xs ++ y ∷ []) y
-last_in xs y = (length xs, let long = length-append xs (y ∷ []) in omega (arith, long), Rattle.std.proofs.Math.Seq.get_or-append_seam xs y [] y)
-
 pub sourced_stays : (c : SearchState) (rows : List (List Literal)) (y clause : List Literal) → IsSourced c rows clause → IsSourced c (rows ++ y ∷ []) clause
 sourced_stays c rows y clause (inl a) = inl a
 sourced_stays c rows y clause (inr (inl u)) = inr (inl u)
@@ -94,11 +94,35 @@ sourced_is_live formula c e rows s t clause (inr (inl (i, less, is))) =
 sourced_is_live formula c e rows s t clause (inr (inr h)) =
     live_is_live_set s.moment.tables.clauses clause (first_row_id c.next + h.0, t.log.rows_told h.0 h.1 ∙ ap Some (row_at rows clause h))
 
+-- and under their ids
+pub sourced_is_named : (formula : Problem) (c : SearchState) (e : State) (rows : List (List Literal)) (s : Search) → Ties formula c e rows s → (clause : List Literal) (n : ℕ) → IsSourcedBy c rows clause n → IsNamedBy s.moment.tables.clauses clause n
+sourced_is_named formula c e rows s t clause n (inl (r, live, is, at)) = rw (is, at) (t.clauses.stored r live).named
+sourced_is_named formula c e rows s t clause n (inr (inl (i, less, is, at))) = rw (is, at) (t.units.named i less)
+sourced_is_named formula c e rows s t clause n (inr (inr (i, less, is, at))) = record {
+  clause = clause;
+  live = ap (get s.moment.tables.clauses) at ∙ t.log.rows_told i less ∙ ap Some (sym is);
+  same = and_from _ _ (inside_itself clause) (inside_itself clause);
+}
+
+-- one with an id is a clause of the source
+pub sourced_by : (c : SearchState) (rows : List (List Literal)) (clause : List Literal) (n : ℕ) → IsSourcedBy c rows clause n → IsSourced c rows clause
+sourced_by c rows clause n (inl (r, live, is, at)) = inl (r, live, is)
+sourced_by c rows clause n (inr (inl (i, less, is, at))) = inr (inl (i, less, is))
+sourced_by c rows clause n (inr (inr (i, less, is, at))) = inr (inr (subst (Contains rows) (sym is) (i, less, any_default rows i less)))
+  where
+    any_default : (xs : List (List Literal)) (i : ℕ) → i < length xs → get_or xs i (get_or xs i []) ≡ get_or xs i []
+    any_default [] i less = absurd (omega (arith, less))
+    any_default (x ∷ xs) zero less = refl
+    any_default (x ∷ xs) (suc i) less = any_default xs i (omega (arith, less))
+
 -- ---- rows that grew by one, or are as before
 module _ {T : Type 0} (c : SearchState) (old new : List (List Literal)) (lits : T → List Literal) where
-  pub last_is_sourced : {E : Type 0} (r : Result T E) → IfOk r (λ x. new ≡ old ++ lits x ∷ []) → IfOk r (λ x. IsSourced c new (lits x))
-  last_is_sourced (Ok x) h = inr (inr (subst (λ xs. Contains xs (lits x)) (sym h) (last_in old (lits x))))
-  last_is_sourced (Err e) h = tt
+  pub last_is_sourced : {E : Type 0} (id : T → ℕ) (r : Result T E) → IfOk r (λ x. new ≡ old ++ lits x ∷ []) → IfOk r (λ x. id x ≡ first_row_id c.next + length old) → IfOk r (λ x. IsSourcedBy c new (lits x) (id x))
+  last_is_sourced id (Ok x) h k =
+      let long = ap length h in
+      let both = length-append old (lits x ∷ []) in
+      inr (inr (length old, omega (arith, long, both), sym (ap (λ xs. get_or xs (length old) []) h ∙ Rattle.std.proofs.Math.Seq.get_or-append_seam old (lits x) [] []), k))
+  last_is_sourced id (Err e) h k = tt
 
   pub sourced_grows : {E : Type 0} (r : Result T E) → IfOk r (λ x. new ≡ old ++ lits x ∷ []) → OnErr r (new ≡ old) → (clause : List Literal) → IsSourced c old clause → IsSourced c new clause
   sourced_grows (Ok x) h k clause is = subst (λ xs. IsSourced c xs clause) (sym h) (sourced_stays c old (lits x) clause is)

@@ -1,5 +1,5 @@
 -- What implied the next literal of level 0, and what telling its unit clause leaves.
-use Rattle.std.proofs.Common.{◌≡◌, refl, sym, ap, ◌∙◌, subst, ℕ, zero, suc, ◌+◌, ◌<◌, ◌≤◌, ℤ, true, false, List, [], ◌∷◌, ◌++◌, length, take, get_or, Option, Some, None, arith, length-take}
+use Rattle.std.proofs.Common.{◌≡◌, refl, sym, ap, ◌∙◌, subst, ℕ, zero, suc, ◌+◌, ◌<◌, ◌≤◌, ℤ, true, false, List, [], ◌∷◌, ◌++◌, length, take, get_or, Option, Some, None, inl, inr, arith, length-take}
 use Rattle.std.specs.Prelude.{slice_index_or}
 use Rattle.std.specs.List.{All}
 use Rattle.std.specs.Global.{Vec}
@@ -14,24 +14,28 @@ use Rattle.cx_base.specs.declared.steps.LogEvent.{LogEvent}
 use Rattle.cx_base.specs.declared.steps.LogEvent.TheVariants.{Step}
 use Rattle.cx_semantics.specs.Chain.{has_literal, is_inside, same_literals}
 use Rattle.cx_base.specs.Integers.{integers_of, literals}
+use Rattle.cx_base.proofs.LiteralLaws.{are_one}
 use Rattle.cx_semantics.proofs.Closure.{has_by_inside}
+use Rattle.cx_semantics.proofs.Members.{has_at_head}
 use Rattle.cx_trail.specs.Sequence.{TrailState, IsTrail, IsTrueIn, entry_at}
 use Rattle.conflict_learn.specs.Learning.{IsAntecedent}
 use Rattle.conflict_learn.proofs.ChainOfResolutions.{by_cases}
 use Rattle.parity_engine.specs.State.{State}
 use Rattle.search_policy.specs.Assuming.{Contradicts}
+use Rattle.search_steps.specs.Hints.{AreHintsFor}
 use Rattle.search_steps.specs.Holding.{AreTold}
 use Rattle.search_steps.specs.Search.{Search, IsSearch}
 use Rattle.search_steps.specs.Tied.{IsLiveSet, ForcesOn}
 use Rattle.search_steps.proofs.StartLaws.{literals_are}
 use Rattle.cdcl_search.specs.declared.state.SearchState.{SearchState}
 use Rattle.cdcl_search.specs.Tells.{IsLeft, with_events}
-use Rattle.cdcl_search.specs.Ties.{SearchStands, SearchStandsFrom}
-use Rattle.cdcl_search.specs.Units.{IsNextUnit, HasOther}
+use Rattle.cdcl_search.specs.Ties.{SearchStands, SearchStandsFrom, IsNamedBy}
+use Rattle.cdcl_search.specs.Units.{IsNextUnit, HasOther, AreUnitsAnd}
 use Rattle.cdcl_search.proofs.RowReasons.{entry_taken}
 use Rattle.cdcl_search.proofs.RowSteps.{is_left}
 use Rattle.cdcl_search.proofs.UnitTies.{unit_is_search, unit_ties, after_unit, with_unit, l_within}
-use Rattle.cdcl_search.proofs.SourceLaws.{sourced_is_live}
+use Rattle.cdcl_search.proofs.SourceLaws.{sourced_is_named}
+use Rattle.cdcl_search.proofs.UnitHints.{unit_hints_are_right}
 use Rattle.cdcl_search.specs.Finds.{PropagationFinds, HasAll}
 use Rattle.cdcl_search.specs.declared.propagation.Found.{Found}
 use Rattle.cdcl_search.specs.declared.propagation.Found.TheVariants as found
@@ -81,15 +85,27 @@ module _ (t : TrailState) (sound : IsTrail t) where
 
 -- ---- the unit clause is told
 module _ (formula : Problem) (c : SearchState) (e : State) (rows : List (List Literal)) (old : Option (List LogEvent)) (st : SearchStands formula c e rows old) where
-  module _ (level : c.trail.level ≡ 0) (l : Literal) (lits : List Literal) (is_next : IsNextUnit c rows l lits) (hints : List ℤ) (apart : assumes formula.constraints (negate l) ≡ false) where
+  module _ (level : c.trail.level ≡ 0) (l : Literal) (lits : List Literal) (n : ℕ) (is_next : IsNextUnit c rows l lits n) (hints : List ℤ) (shown : AreUnitsAnd c lits n hints) (apart : assumes formula.constraints (negate l) ≡ false) where
     abbrev step : LogStep
     step = ClauseWithHints c.next (integers_of (l ∷ [])) hints
 
     back : literals (integers_of (l ∷ [])) ≡ l ∷ []
     back = literals_are formula.variables (l ∷ []) (l_within formula c e rows st.0 st.1 st.3 l is_next.next.0 is_next.next.1)
 
+    named : IsNamedBy st.0.moment.tables.clauses lits n
+    named = sourced_is_named formula c e rows st.0 st.3 lits n is_next.sourced
+
     live : IsLiveSet st.0.moment.tables.clauses lits
-    live = sourced_is_live formula c e rows st.0 st.3 lits is_next.sourced
+    live = (named.clause, (n, named.live), named.same)
+
+    -- unit clauses make the other literals false, since they were false before
+    right : AreHintsFor st.0.moment.tables.clauses (l ∷ []) hints
+    right = unit_hints_are_right st.0.moment.tables.clauses c.next c st.0.trail st.3.units lits n hints named shown (l ∷ [])
+        (λ m has. by_cases (same_literal l m)
+        (λ same. inl (ap (has_literal (l ∷ [])) (sym (are_one l m same)) ∙ has_at_head l []))
+        (λ other.
+        let f = (is_next.implied (length c.units.items) is_next.next.0 is_next.next.1).others_false m has (ap (λ x. same_literal x m) is_next.next.1 ∙ other) in
+        inr (f.0, f.1, (let low = f.1 in let more = is_next.next.0 in omega (arith, low, more), f.2))))
 
     forces : ForcesOn (take (length c.units.items) c.trail.entries) live.0 l
     forces = implied_forces c.trail l lits live.0 (length c.units.items) is_next.next.0 is_next.next.1 is_next.implied live.2
@@ -98,7 +114,7 @@ module _ (formula : Problem) (c : SearchState) (e : State) (rows : List (List Li
     after = after_unit formula c e rows st.0 st.1 st.3 l is_next.next.0 is_next.next.1 hints
 
     is_search : IsSearch formula e.parities after
-    is_search = unit_is_search formula c e rows st.0 st.1 st.3 l is_next.next.0 is_next.next.1 level live.0 live.1 forces back hints apart
+    is_search = unit_is_search formula c e rows st.0 st.1 st.3 l is_next.next.0 is_next.next.1 level live.0 live.1 forces back hints right apart
 
     told_then : (o : Option (List LogEvent)) → AreTold o st.0.events → AreTold (with_events (Step step ∷ []) o) after.events
     told_then None a = tt

@@ -26,6 +26,7 @@ use Rattle.cx_trail.proofs.ValueLaws.{entry_kept}
 use Rattle.parity_engine.specs.declared.state.Held.{Held}
 use Rattle.parity_engine.specs.State.{State}
 use Rattle.search_steps.specs.Engine.{HoldsValues}
+use Rattle.search_steps.specs.Hints.{AreHintsFor}
 use Rattle.search_steps.specs.Ids.{IsRanged}
 use Rattle.search_steps.specs.LogSteps.{IsAddition, RestOnClauses, unit_told}
 use Rattle.search_steps.specs.Search.{Search, IsSearch, told}
@@ -221,8 +222,9 @@ module _ (formula : Problem) (c : SearchState) (e : State) (rows : List (List Li
   addition : IsAddition formula s.moment.tables.clauses n (z ∷ [])
   addition = record { within = variables_are_within formula.variables (l ∷ []) (l_within formula c e rows s ok t l more here); free = next_is_free formula (first_row_id c.next) c.next (first_row_id c.next + length rows) s t.log.ranged (omega arith) }
 
-  pub unit_is_search : assumes formula.constraints (negate l) ≡ false → IsSearch formula e.parities after
-  unit_is_search apart_is = unit_rests_keeps formula e.parities s ok n z hints p.newer p.older p.entry p.parts level_is (integer_is ∙ sym literal_is) addition
+  pub unit_is_search : AreHintsFor s.moment.tables.clauses (l ∷ []) hints → assumes formula.constraints (negate l) ≡ false → IsSearch formula e.parities after
+  unit_is_search right apart_is = unit_rests_keeps formula e.parities s ok n z hints p.newer p.older p.entry p.parts level_is (integer_is ∙ sym literal_is) addition
+      (subst (λ m. AreHintsFor s.moment.tables.clauses (m ∷ []) hints) (sym integer_is) right)
       (ap (λ m. is_ending formula.constraints (m ∷ [])) integer_is ∙ ap (λ b. b && true) apart_is) t.log.served.served (on_clauses c.units.items p.older p.rest) clause live
       (subst (Rattle.search_steps.specs.Trail.Forces clause (all_held p.older)) (sym literal_is) (forces_by p.older (take (length c.units.items) c.trail.entries) clause l older_tied forces))
 

@@ -1,5 +1,5 @@
 -- The clauses that a source holds.
-use Rattle.std.specs.Prelude.{◌≡◌, ◌⊎◌, ℕ, ◌<◌, ◌-◌, ◌^◌, min, List, [], ◌∷◌, length, Contains, IsFalse}
+use Rattle.std.specs.Prelude.{◌≡◌, ◌⊎◌, ℕ, ◌+◌, ◌<◌, ◌-◌, ◌^◌, min, List, [], ◌∷◌, length, get_or, Contains, IsFalse}
 use Rattle.cx_base.specs.Assumptions.{assumes}
 use Rattle.cx_base.specs.Literals.{Literal, negate}
 use Rattle.cx_base.specs.declared.constraint.Constraint.{Constraint}
@@ -13,6 +13,7 @@ use Rattle.clause_arena.specs.Clauses.{IsLive, literals_at, id_at}
 use Rattle.cdcl_search.specs.declared.state.SearchState.{SearchState}
 use Rattle.cdcl_search.specs.declared.source.Hinted.{Hinted}
 use Rattle.cdcl_search.specs.Tells.{IsId}
+use Rattle.cdcl_search.specs.Ties.{first_row_id}
 
 -- a clause of the arena, a unit clause of level 0, or a clause of a row that was told
 abbrev pub IsSourced : SearchState → List (List Literal) → List Literal → Type 0
@@ -20,15 +21,22 @@ IsSourced c rows clause = ((r : ℕ) × IsLive c.arena r × (clause ≡ literals
     ⊎ ((i : ℕ) × (i < length c.units.items) × (clause ≡ (entry_at c.trail.entries i).literal ∷ []))
     ⊎ Contains rows clause
 
+-- such a clause, and its id in the log
+abbrev pub IsSourcedBy : SearchState → List (List Literal) → List Literal → ℕ → Type 0
+IsSourcedBy c rows clause n = ((r : ℕ) × IsLive c.arena r × (clause ≡ literals_at c.arena r) × (n ≡ id_at c.arena r))
+    ⊎ ((i : ℕ) × (i < length c.units.items) × (clause ≡ (entry_at c.trail.entries i).literal ∷ []) × (n ≡ get_or c.units.items i 0))
+    ⊎ ((i : ℕ) × (i < length rows) × (clause ≡ get_or rows i []) × (n ≡ first_row_id c.next + i))
+
 -- each id that the search holds is one that a step may have
 pub record HasIds (c : SearchState) : Type 0 where
   pub next : IsId c.next
   pub units : All IsId c.units.items
   pub stored : (r : ℕ) → IsLive c.arena r → IsId (id_at c.arena r)
 
--- these literals, under an id that a step may have
-pub record IsHinted (clause : List Literal) (h : Hinted) : Type 0 where
+-- these literals, under this id, which a step may have
+pub record IsHinted (clause : List Literal) (n : ℕ) (h : Hinted) : Type 0 where
   pub lits : h.lits ≡ clause
+  pub is : h.id ≡ n
   pub id : IsId h.id
 
 -- where a row implied the literal, it contradicts no assumed one

@@ -1,8 +1,10 @@
 //! Clauses that chains of clauses show.
-ghost use Rattle.std.specs.Prelude.{◌≡◌, ◌≤◌, [], ◌∷◌, ◌++◌, pos, OnOk, IfOk, IfSome};
+ghost use Rattle.std.specs.Prelude.{◌≡◌, ℕ, ◌<◌, ◌≤◌, [], ◌∷◌, ◌++◌, length, get_or, pos, Some, OnOk, IfOk, IfSome};
 ghost use Rattle.std.specs.List.{All, Contains};
 ghost use Rattle.cx_base.specs.Numbers.{AreStepIntegers};
 ghost use Rattle.cx_base.specs.Integers.{integers_of};
+ghost use Rattle.cx_base.specs.Literals.{negate};
+ghost use Rattle.cx_trail.specs.Sequence.{StandsAt};
 ghost use Rattle.cx_base.specs.declared.steps.LogEvent.TheVariants.{Step};
 ghost use Rattle.cx_base.specs.declared.steps.LogStep.TheVariants as step;
 ghost use Rattle.cdcl_search.specs.Calls.{Tells};
@@ -35,7 +37,8 @@ pub fn push_hint(hints: &mut Vec<i64>, id: u64) -> Result<(), AllocError>
 /// The id of the unit clause that makes a literal false, where there is one.
 fn id_against(state: &SearchState, lit: Lit) -> Option<u64>
     requires { lit.variable ≤ state.now.trail.variables }
-    ensures { IfSome result (Contains state.now.units.items) }
+    ensures held { IfSome result (Contains state.now.units.items) }
+    ensures finds { (i : ℕ) → i < length state.now.units.items → StandsAt state.now.trail.entries (negate lit) i → result ≡ Some (get_or state.now.units.items i 0) }
 {
     match state.trail.truth(lit) {
         Truth::False => state.units.get(state.trail.place_of(lit)).copied(),
@@ -53,7 +56,7 @@ pub fn hints_of(
     requires known { All (λ l. l.variable ≤ state.now.trail.variables) lits.now }
     requires ids { All IsId state.now.units.items }
     requires id { IsId id }
-    ensures { IfOk result (AreUnitsAnd state.now id) }
+    ensures { IfOk result (AreUnitsAnd state.now lits.now id) }
 {
     let mut hints = Vec::new(alloc);
     for lit in lits {

@@ -1,17 +1,17 @@
 //! Where the clauses that implied the literals of the trail come from.
-ghost use Rattle.std.specs.Prelude.{◌≡◌, ℕ, ◌+◌, ◌-◌, ◌<◌, ◌≤◌, [], ◌∷◌, ◌++◌, List, length, IfOk, IfSome, OnOk, OnErr, IsFalse};
+ghost use Rattle.std.specs.Prelude.{◌≡◌, ℕ, ◌+◌, ◌-◌, ◌<◌, ◌≤◌, [], ◌∷◌, ◌++◌, List, length, get_or, IfOk, IfSome, OnOk, OnErr, IsFalse};
 ghost use Rattle.cx_base.specs.Assumptions.{assumes};
 ghost use Rattle.cx_base.specs.Literals.{Literal, negate};
 ghost use Rattle.cx_trail.specs.declared.entry.Reason.TheVariants.{Clause};
 ghost use Rattle.cx_trail.specs.Sequence.{entry_at, IsTrueIn};
-ghost use Rattle.clause_arena.specs.Clauses.{IsLive, literals_at};
+ghost use Rattle.clause_arena.specs.Clauses.{IsLive, id_at, literals_at};
 ghost use Rattle.conflict_learn.specs.Learning.{HasReason, IsAntecedent};
 ghost use Rattle.parity_engine.specs.State.{State};
 ghost use Rattle.cdcl_search.specs.Calls.{StandsOn};
 ghost use Rattle.cdcl_search.specs.Explaining.{IsReasonOf};
-ghost use Rattle.cdcl_search.specs.Sources.{IsSourced, HasIds, IsHinted, IsApartByRow, RowsAreApart};
+ghost use Rattle.cdcl_search.specs.Sources.{IsSourced, IsSourcedBy, HasIds, IsHinted, IsApartByRow, RowsAreApart};
 ghost use Rattle.cdcl_search.specs.Tells.{IsId};
-ghost use Rattle.cdcl_search.specs.Ties.{SearchStands, HaveReasons};
+ghost use Rattle.cdcl_search.specs.Ties.{SearchStands, HaveReasons, first_row_id};
 ghost use Rattle.cdcl_search.specs.Logs.{GoesOn, HasNotFailed, Stands};
 ghost use Rattle.cdcl_search.specs.Loans.{HasSameLoans, loans_rest, loans_then};
 ghost use Rattle.cdcl_search.specs.GoingOn.{log_rests, log_stops, log_then};
@@ -39,7 +39,7 @@ pub fn unit(alloc: Global, state: &SearchState, place: usize) -> Result<Hinted, 
     requires unit { place < length state.now.units.items }
     requires place { place < length state.now.trail.entries }
     requires ids { HasIds state.now }
-    ensures { IfOk result (IsHinted ((entry_at state.now.trail.entries place).literal ∷ [])) }
+    ensures { IfOk result (IsHinted ((entry_at state.now.trail.entries place).literal ∷ []) (get_or state.now.units.items place 0)) }
 {
     let mut lits = Vec::new(alloc);
     lits.push(state.trail.entry(place).literal)?;
@@ -57,7 +57,7 @@ pub fn stored(
 ) -> Result<Hinted, AllocError>
     requires live { IsLive state.now.arena reference }
     requires ids { HasIds state.now }
-    ensures { IfOk result (IsHinted (literals_at state.now.arena reference)) }
+    ensures { IfOk result (IsHinted (literals_at state.now.arena reference) (id_at state.now.arena reference)) }
 {
     let lits = copy_of(alloc, state.arena.lits(reference))?;
     Ok(Hinted {
@@ -125,6 +125,7 @@ fn hinted_row<P: ParityEngine, L: Sink<Item = LogEvent>>(
     requires apart { IsFalse (assumes log.old.formula.now.constraints (negate literal)) }
     ensures implied { IfOk result (λ h. IsAntecedent state.now.trail literal h.lits) }
     ensures id { IfOk result (λ h. IsId h.id) }
+    ensures next { IfOk result (λ h. h.id ≡ first_row_id state.now.next + length rows.old.items) }
     ensures same { OnErr result (rows.new.items ≡ rows.old.items) }
     ensures rows { IfOk result (λ h. rows.new.items ≡ rows.old.items ++ h.lits ∷ []) }
     ensures stands_on { StandsOn P.ParityEngine L.Sink log.old log.new state.now engine.now rows.new.items result }
@@ -151,7 +152,7 @@ pub(crate) fn clause_of_reason<P: ParityEngine, L: Sink<Item = LogEvent>>(
     requires reason { HasReason state.now.trail literal reason }
     requires room { length rows.old.items ≤ log.old.formula.now.variables }
     requires apart { IsApartByRow log.old.formula.now.constraints reason literal }
-    ensures sourced { IfOk result (λ h. IsSourced state.now rows.new.items h.lits) }
+    ensures sourced { IfOk result (λ h. IsSourcedBy state.now rows.new.items h.lits h.id) }
     ensures implied { IfOk result (λ h. IsAntecedent state.now.trail literal h.lits) }
     ensures id { IfOk result (λ h. IsId h.id) }
     ensures grows { (clause : List Literal) → IsSourced state.now rows.old.items clause → IsSourced state.now rows.new.items clause }

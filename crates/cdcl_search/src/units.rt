@@ -33,7 +33,7 @@ fn tell_unit<P: ParityEngine, L: Sink<Item = LogEvent>>(
     requires stands { Stands P.ParityEngine L.Sink log.old state.old engine.now rows.now }
     requires going { HasNotFailed L.Sink log.old }
     requires level { state.old.trail.level ≡ 0 }
-    requires next { IsNextUnit state.old rows.now literal implying.now.lits }
+    requires next { IsNextUnit state.old rows.now literal implying.now.lits implying.now.id }
     requires id { IsId implying.now.id }
     requires apart { IsFalse (assumes log.old.formula.now.constraints (negate literal)) }
     ensures to_delete { HasRowsToDelete P.ParityEngine L.Sink log.old log.new state.new engine.now rows.now result }

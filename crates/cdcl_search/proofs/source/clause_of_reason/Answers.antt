@@ -4,7 +4,7 @@ use Rattle.cx_trail.specs.Sequence.{IsTrueIn}
 use Rattle.conflict_learn.specs.Learning.{HasReason}
 use Rattle.cdcl_search.specs.declared.source.Hinted.{Hinted}
 use Rattle.cdcl_search.proofs.LowIds.{has_ids}
-use Rattle.cdcl_search.proofs.SourceLaws.{no_decision, clause_is_live, clause_is_antecedent, stored_is_sourced, row_is_reason, last_is_sourced, sourced_grows, one_more}
+use Rattle.cdcl_search.proofs.SourceLaws.{no_decision, clause_is_live, clause_is_antecedent, row_is_reason, last_is_sourced, sourced_grows, one_more}
 use Rattle.std.proofs.lemmas.Result.{err_from_is_err_and}
 use Rattle.cdcl_search.specs.GoingOn.{log_rests, log_stops}
 use Rattle.cdcl_search.proofs.source.clause_of_reason.Goals as goal
@@ -28,7 +28,7 @@ returns-in_ok-stored-in-Clause-clause-sourced g c =
     let is = c.len.ensures in
     let live = clause_is_live c.args.state.now (g.P.ParityEngine.state c.args.engine.now) c.requires.stands.3.reasons c.place_of-place.ensures.sound c.args.literal c.place_of-place.result c.place_of-place.ensures.within
     (c.place_of-place.ensures.negated ∙ ap Rattle.cx_base.specs.Literals.negate c.negate.ensures) (omega (arith, low, is)) c.in-Clause.reference (subst (HasReason c.args.state.now.trail c.args.literal) c.in-Clause.is c.requires.reason) in
-    stored_is_sourced c.args.state.now c.in-Clause.reference live _ _ c.in_ok-stored-in-Clause.ensures.lits
+    inl (c.in-Clause.reference, live, c.in_ok-stored-in-Clause.ensures.lits, c.in_ok-stored-in-Clause.ensures.is)
 
 pub returns-in_ok-stored-in-Clause-clause-implied : goal.returns-in_ok-stored-in-Clause-clause-implied
 returns-in_ok-stored-in-Clause-clause-implied g c =
@@ -38,7 +38,7 @@ returns-in_ok-stored-in-Clause-clause-implied g c =
     (c.place_of-place.ensures.negated ∙ ap Rattle.cx_base.specs.Literals.negate c.negate.ensures) (omega (arith, low, is)) c.in-Clause.reference (subst (HasReason c.args.state.now.trail c.args.literal) c.in-Clause.is c.requires.reason) _ c.in_ok-stored-in-Clause.ensures.lits
 
 pub returns-in-Row-clause-sourced : goal.returns-in-Row-clause-sourced
-returns-in-Row-clause-sourced g c = last_is_sourced c.args.state.now c.args.rows.now.items c.hinted_row.new.rows.items (λ (h : Hinted). h.lits) c.hinted_row.result c.hinted_row.ensures.rows
+returns-in-Row-clause-sourced g c = last_is_sourced c.args.state.now c.args.rows.now.items c.hinted_row.new.rows.items (λ (h : Hinted). h.lits) (λ (h : Hinted). h.id) c.hinted_row.result c.hinted_row.ensures.rows c.hinted_row.ensures.next
 
 pub returns-in-Row-clause-grows : goal.returns-in-Row-clause-grows
 returns-in-Row-clause-grows g c = sourced_grows c.args.state.now c.args.rows.now.items c.hinted_row.new.rows.items (λ (h : Hinted). h.lits) c.hinted_row.result c.hinted_row.ensures.rows c.hinted_row.ensures.same
@@ -56,7 +56,7 @@ pub returns-then-place-len-clause-sourced : goal.returns-then-place-len-clause-s
 returns-then-place-len-clause-sourced g c =
     let low : c.place_of-place.result < c.len.result = c.if-place-len.true in
     let is = c.len.ensures in
-    inr (inl (c.place_of-place.result, omega (arith, low, is), c.in_ok-unit.ensures.lits))
+    inr (inl (c.place_of-place.result, omega (arith, low, is), c.in_ok-unit.ensures.lits, c.in_ok-unit.ensures.is))
 
 pub stored-requires-clause-live : goal.stored-requires-clause-live
 stored-requires-clause-live g c =

@@ -39,9 +39,9 @@ pub returns-in-Ok-clause-rows : goal.returns-in-Ok-clause-rows
 returns-in-Ok-clause-rows g c = c.in-Ok.ensures.rows ∙ ap (λ x. c.args.rows.now.items ++ x ∷ []) (sym c.in-Ok.ensures.clause)
 
 pub returns-in-Err : goal.returns-in-Err
-returns-in-Err g c = record { implied = tt; id = tt; same = c.in-Err.ensures.same; rows = tt; stands_on = record { stands = tt; log = c.in-Err.ensures.stands_on.log } }
+returns-in-Err g c = record { implied = tt; id = tt; next = tt; same = c.in-Err.ensures.same; rows = tt; stands_on = record { stands = tt; log = c.in-Err.ensures.stands_on.log } }
 
 pub returns-in_err-reason : goal.returns-in_err-reason
 returns-in_err-reason g c =
     let fault = err_from_is_err_and c.from_residual.result c.from_residual.ensures.1 in
-    rw (fault.1, fault.2) (record { implied = tt; id = tt; same = refl; rows = tt; stands_on = record { stands = tt; log = log_stops g.L.Sink g.met.L.Sink.keeps_itself c.args.log.now } })
+    rw (fault.1, fault.2) (record { implied = tt; id = tt; next = tt; same = refl; rows = tt; stands_on = record { stands = tt; log = log_stops g.L.Sink g.met.L.Sink.keeps_itself c.args.log.now } })

@@ -7,7 +7,7 @@ use Rattle.cx_trail.specs.declared.entry.Entry.{Entry}
 use Rattle.std.proofs.lemmas.Result.{err_from_is_err_and}
 use Rattle.cx_trail.specs.Sequence.{entry_at}
 use Rattle.cdcl_search.specs.Ties.{SearchStands, SearchStandsFrom}
-use Rattle.cdcl_search.specs.Sources.{IsSourced}
+use Rattle.cdcl_search.specs.Sources.{IsSourcedBy}
 use Rattle.cdcl_search.specs.GoingOn.{log_then}
 use Rattle.cdcl_search.proofs.units.tell_next_unit.Goals as goal
 
@@ -45,7 +45,7 @@ tell_unit-requires-clause-next g c =
     let at : length c.args.state.now.units.items ≡ c.len.result = omega (arith, long, same) in
     record {
       next = (c.requires.more, ap (λ x. x.literal) (ap (entry_at c.args.state.now.trail.entries) at ∙ sym c.entry-entry.ensures.is));
-      sourced = subst (λ rows. IsSourced c.args.state.now rows c.in_ok-implying.implying.lits) (sym c.deref.ensures.value) c.in_ok-implying.ensures.sourced;
+      sourced = subst (λ rows. IsSourcedBy c.args.state.now rows c.in_ok-implying.implying.lits c.in_ok-implying.implying.id) (sym c.deref.ensures.value) c.in_ok-implying.ensures.sourced;
       implied = c.in_ok-implying.ensures.implied;
     }
 

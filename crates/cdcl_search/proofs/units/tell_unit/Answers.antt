@@ -3,6 +3,7 @@ use Rattle.std.specs.List.{All}
 use Rattle.std.proofs.lemmas.Result.{err_from_is_err_and}
 use Rattle.cdcl_search.specs.GoingOn.{log_stops, log_then}
 use Rattle.cdcl_search.specs.Ties.{SearchStandsFrom}
+use Rattle.cdcl_search.specs.Units.{AreUnitsAnd}
 use Rattle.cdcl_search.proofs.LowIds.{has_ids}
 use Rattle.cdcl_search.proofs.UnitTies.{with_unit}
 use Rattle.cdcl_search.proofs.UnitLaws.{implying_are_low, stands_then, left_then}
@@ -21,13 +22,13 @@ tell_chained-requires-clause-id g c = (has_ids c.args.log.now.formula.now c.args
 pub tell_chained-requires-clause-right : goal.tell_chained-requires-clause-right
 tell_chained-requires-clause-right g c =
     left_then c.args.log.now.formula.now c.args.state.now (g.P.ParityEngine.state c.args.engine.now) c.args.rows.now (g.L.Sink.items c.args.log.now.sink.now) c.requires.stands
-    c.requires.level c.args.literal c.args.implying.now.lits c.requires.next c.in_ok-hints.hints c.requires.apart
+    c.requires.level c.args.literal c.args.implying.now.lits c.args.implying.now.id c.requires.next c.in_ok-hints.hints (subst (λ lits. AreUnitsAnd c.args.state.now lits c.args.implying.now.id c.in_ok-hints.hints) c.as_slice.ensures c.in_ok-hints.ensures) c.requires.apart
 
 pub returns-clause-to_delete : goal.returns-clause-to_delete
 returns-clause-to_delete g c =
     let stands = subst (λ f. SearchStandsFrom f (with_unit c.args.state.now c.push.new.self (c.args.state.now.next + 1)) (g.P.ParityEngine.state c.args.engine.now) (c.args.state.now.next + 1) c.args.rows.now (g.L.Sink.items c.tell_chained.new.log.sink.now)) (sym c.tell_chained.ensures.log.formula)
     (stands_then c.args.log.now.formula.now c.args.state.now (g.P.ParityEngine.state c.args.engine.now) c.args.rows.now (g.L.Sink.items c.args.log.now.sink.now) c.requires.stands
-    c.requires.level c.args.literal c.args.implying.now.lits c.requires.next c.in_ok-hints.hints c.requires.apart
+    c.requires.level c.args.literal c.args.implying.now.lits c.args.implying.now.id c.requires.next c.in_ok-hints.hints (subst (λ lits. AreUnitsAnd c.args.state.now lits c.args.implying.now.id c.in_ok-hints.hints) c.as_slice.ensures c.in_ok-hints.ensures) c.requires.apart
     (g.L.Sink.items c.tell_chained.new.log.sink.now) c.in_ok-tell_chained.ensures.told c.push.new.self c.in_ok-push.ensures.items (c.args.state.now.next + 1) refl) in
     record { stands = stands; log = c.in_ok-tell_chained.ensures.log }
 

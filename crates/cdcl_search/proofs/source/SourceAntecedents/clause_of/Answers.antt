@@ -2,6 +2,7 @@ use Rattle.std.proofs.Common.{◌∙◌, refl, sym, ap, subst, arith}
 use Rattle.cx_base.specs.Problem.{Problem}
 use Rattle.cdcl_search.specs.Sources.{RowsAreApart}
 use Rattle.std.proofs.lemmas.Result.{err_from_is_err_and}
+use Rattle.cdcl_search.proofs.SourceLaws.{sourced_by}
 use Rattle.cdcl_search.proofs.source.SourceAntecedents.clause_of.Goals as goal
 
 pub clause_of_reason-requires-clause-apart : goal.clause_of_reason-requires-clause-apart
@@ -23,7 +24,7 @@ returns g c =
     record {
       trail = refl;
       held = λ clause h. e.grows clause h;
-      clause = e.sourced;
+      clause = sourced_by c.args.self.now.state.now c.clause_of_reason.new.rows.items c.in_ok-hinted.hinted.lits c.in_ok-hinted.hinted.id e.sourced;
       implied = e.implied;
       ready = (e.stands_on.stands, subst (λ (f : Problem). RowsAreApart f.constraints c.args.self.now.state.now.trail c.args.self.now.below) (sym e.stands_on.log.formula) c.requires.ready.1, e.stands_on.log.failed ∙ c.requires.ready.2);
       reach = refl;
