@@ -4,6 +4,7 @@ mod OwnLaws
 mod Transfers
 mod Numbers
 mod Taking
+mod Admitting
 mod Texts
 mod Turns
 mod Leaving

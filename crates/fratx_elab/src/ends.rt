@@ -12,6 +12,7 @@ use step_text::{Sink, SinkFault, SpareLists, StepSource, TextRefusal};
 ///
 /// Each call leaves the other side's steps, place and count of faults as they were.
 pub trait ElabEnds {
+    // what is told of each state of the two
     ghost view: { EndsView Self };
 
     /// The next step of the log, or none at the end of the text between two steps. Its lists may take the memory of the spare ones.

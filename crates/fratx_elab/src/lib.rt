@@ -3,6 +3,7 @@
 
 mod content_index;
 mod delete;
+mod elaboration;
 mod ends;
 mod moving;
 mod naming;

@@ -9,16 +9,11 @@ ghost use Rattle.fratx_elab.specs.Ties.{AreTied};
 ghost use Rattle.fratx_elab.specs.declared.naming.TheConstants.{MAX_ID};
 
 use crate::delete::{delete_clause, delete_parity};
+use crate::elaboration::Elaboration;
 use crate::moving::{move_clauses, move_parities};
-use crate::originals::{Counts, Originals};
 use crate::state::State;
-use crate::take::{
-    take_clause, take_clause_of_parity, take_original, take_original_parity, take_parity,
-    take_parity_of_clauses,
-};
 use cx_base::{Formula, IntList, LogStep, ProofStep};
 use proof_rules::JudgeRefusal;
-use std::alloc::Global;
 
 /// Whether a right step ends the log: one that derives an ending clause.
 #[inline(always)]
@@ -42,53 +37,48 @@ pub fn ends_log(formula: &Formula, step: &LogStep) -> bool
     }
 }
 
-/// Judges a step, and where it is right does it and gives what the proof gains, if anything.
-///
-/// `counts` are the formula's numbers of clauses and of parities. After an error the state is spoilt.
-#[inline(always)]
-pub fn take_step(
-    alloc: Global,
-    formula: &Formula,
-    counts: Counts,
-    originals: &Originals,
-    state: &mut State,
-    step: LogStep,
-) -> Result<Option<ProofStep>, JudgeRefusal>
-    requires originals { StandsFor originals.now formula.now }
-    requires counts { AreCounts counts formula.now }
-    requires clause_room { state.old.clauses.last < MAX_ID }
-    requires parity_room { state.old.parities.last < MAX_ID }
-    requires tied { (proof : Tables) × AreTied formula.now state.old.live proof (names_of state.old) }
-    ensures taken { TakesLogStep formula.now state.old step result state.new }
-    ensures text { IfOk result CanBePrinted }
-    ensures more { OnOk result (CountsOneMore state.old state.new) }
-{
-    match step {
-        LogStep::Original(id, lits) => take_original(alloc, formula, originals, state, id, lits),
-        LogStep::OriginalParity(id, lits) => {
-            take_original_parity(alloc, formula, originals, state, id, lits)
+impl Elaboration<'_> {
+    /// Judges a step, and where it is right does it and gives what the proof gains, if anything.
+    ///
+    /// After an error the state is spoilt.
+    #[inline(always)]
+    pub fn take_step(
+        &self,
+        state: &mut State,
+        step: LogStep,
+    ) -> Result<Option<ProofStep>, JudgeRefusal>
+        requires originals { StandsFor self.now.originals self.now.formula.now }
+        requires counts { AreCounts self.now.counts self.now.formula.now }
+        requires clause_room { state.old.clauses.last < MAX_ID }
+        requires parity_room { state.old.parities.last < MAX_ID }
+        requires tied { (proof : Tables) × AreTied self.now.formula.now state.old.live proof (names_of state.old) }
+        ensures taken { TakesLogStep self.now.formula.now state.old step result state.new }
+        ensures text { IfOk result CanBePrinted }
+        ensures more { OnOk result (CountsOneMore state.old state.new) }
+    {
+        match step {
+            LogStep::Original(id, lits) => self.take_original(state, id, lits),
+            LogStep::OriginalParity(id, lits) => self.take_original_parity(state, id, lits),
+            LogStep::Clause(id, lits) => {
+                let none = IntList::from_vec(Vec::new(self.alloc));
+                self.take_clause(state, id, lits, none)
+            }
+            LogStep::ClauseWithHints(id, lits, hints) => self.take_clause(state, id, lits, hints),
+            LogStep::Parity(id, lits, ids) => self.take_parity(state, id, lits, ids),
+            LogStep::ClauseOfParity(id, lits, source) => {
+                self.take_clause_of_parity(state, id, lits, source)
+            }
+            LogStep::ParityOfClauses(id, lits, ids) => {
+                self.take_parity_of_clauses(state, id, lits, ids)
+            }
+            LogStep::Delete(id, lits) => delete_clause(self.counts.clauses, state, id, lits),
+            LogStep::DeleteParity(id, lits) => delete_parity(self.counts.parities, state, id, lits),
+            LogStep::Final(_, lits) | LogStep::FinalParity(_, lits) => {
+                state.spare.keep_literals(lits);
+                Ok(None)
+            }
+            LogStep::MoveClauses(moves) => move_clauses(self.alloc, state, moves),
+            LogStep::MoveParities(moves) => move_parities(self.alloc, state, moves),
         }
-        LogStep::Clause(id, lits) => {
-            let none = IntList::from_vec(Vec::new(alloc));
-            take_clause(alloc, formula, state, id, lits, none)
-        }
-        LogStep::ClauseWithHints(id, lits, hints) => {
-            take_clause(alloc, formula, state, id, lits, hints)
-        }
-        LogStep::Parity(id, lits, ids) => { take_parity(formula, state, id, lits, ids) }
-        LogStep::ClauseOfParity(id, lits, source) => {
-            take_clause_of_parity(formula, state, id, lits, source)
-        }
-        LogStep::ParityOfClauses(id, lits, ids) => {
-            take_parity_of_clauses(formula, state, id, lits, ids)
-        }
-        LogStep::Delete(id, lits) => delete_clause(counts.clauses, state, id, lits),
-        LogStep::DeleteParity(id, lits) => delete_parity(counts.parities, state, id, lits),
-        LogStep::Final(_, lits) | LogStep::FinalParity(_, lits) => {
-            state.spare.keep_literals(lits);
-            Ok(None)
-        }
-        LogStep::MoveClauses(moves) => move_clauses(alloc, state, moves),
-        LogStep::MoveParities(moves) => move_parities(alloc, state, moves),
     }
 }

@@ -8,7 +8,7 @@ ghost use Rattle.cx_semantics.specs.Chain.{IsChain};
 ghost use Rattle.cx_semantics.specs.LogRules.{AreLive, HasChain, chained};
 ghost use Rattle.cx_semantics.specs.Tables.{Tables, is_live, named};
 ghost use Rattle.cx_base.specs.declared.steps.LogStep.TheVariants as step;
-ghost use Rattle.proof_rules.specs.Kinds.{chosen, put_constraint};
+ghost use Rattle.proof_rules.specs.Kinds.{put_constraint};
 ghost use Rattle.fratx_elab.specs.Contents.{StandsFor};
 ghost use Rattle.fratx_elab.specs.Names.{AreNamed, IsProofId, stands_for, hints_for};
 ghost use Rattle.fratx_elab.specs.Takes.{TakesLogStep, Admits, GivesChain, SettlesHints, CanBePrinted, CountsOneMore, names_of};
@@ -16,11 +16,11 @@ ghost use Rattle.fratx_elab.specs.Ties.{AreTied};
 ghost use Rattle.fratx_elab.specs.declared.naming.TheConstants.{MAX_ID};
 ghost use Rattle.rup_finder.specs.Front.{NoneNegative};
 
+use crate::elaboration::Elaboration;
 use crate::naming::Names;
-use crate::originals::Originals;
 use crate::state::State;
 use crate::steps::{clause_of_parity_step, clause_step, parity_of_clauses_step, parity_step};
-use cx_base::{Formula, IdList, IntList, Lit, LitList, ProofStep};
+use cx_base::{IdList, IntList, Lit, LitList, ProofStep};
 use cx_semantics::Cause;
 use proof_rules::{
     JudgeMarks, JudgeRefusal, Kind, admit_into, ids_of, judge_clause_of_named_parity,
@@ -68,21 +68,6 @@ fn hints_of(room: Vec<i64>, names: &Names, ids: &[u64]) -> Result<IntList, Alloc
     } else {
         renamed_hints(room, names, ids)
     }
-}
-
-/// The literals of what a step adds, in the memory of `room`: its variables are the formula's, and its id is not live.
-#[inline(always)]
-fn admit(
-    room: Vec<Lit>,
-    formula: &Formula,
-    live: &IndexedClauses,
-    kind: Kind,
-    id: u64,
-    lits: &IntList,
-) -> Result<LitList, JudgeRefusal>
-    ensures { Admits formula.now (chosen kind live.now) id lits.now result }
-{
-    admit_into(room, formula.vars(), lits, live.has(kind, id))
 }
 
 /// Puts a constraint under this id, and gives the memory of its literals back.
@@ -190,182 +175,226 @@ fn settle_hints(
     Ok(())
 }
 
-/// A clause of the formula: nothing is written.
-pub fn take_original(
-    alloc: Global,
-    formula: &Formula,
-    originals: &Originals,
-    state: &mut State,
-    id: u64,
-    lits: IntList,
-) -> Result<Option<ProofStep>, JudgeRefusal>
-    requires originals { StandsFor originals.now formula.now }
-    ensures taken { TakesLogStep formula.now state.old (step.Original id lits) result state.new }
-    ensures text { IfOk result CanBePrinted }
-    ensures counts { OnOk result (CountsOneMore state.old state.new) }
-{
-    let room = state.marks.literals();
-    let target = admit(room, formula, &state.live, Kind::Clauses, id, &lits)?;
-    match originals.clause_number(alloc, formula, id, target.as_slice())? {
-        Some(number) => {
-            put_live(&mut state.live, &mut state.marks, Kind::Clauses, id, target)?;
-            state.clauses.put_original(id, number)?;
-            state.spare.keep_literals(lits);
-            Ok(None)
+impl Elaboration<'_> {
+    /// The literals of what a clause step adds, in the memory of `room`: its variables are the formula's, and its id is not that of
+    /// a live clause.
+    #[inline(always)]
+    fn admit_clause(
+        &self,
+        room: Vec<Lit>,
+        live: &IndexedClauses,
+        id: u64,
+        lits: &IntList,
+    ) -> Result<LitList, JudgeRefusal>
+        ensures { Admits self.now.formula.now live.now.clauses id lits.now result }
+    {
+        admit_into(room, self.formula.vars(), lits, live.has(Kind::Clauses, id))
+    }
+
+    /// The literals of what a parity step adds, in the memory of `room`: its variables are the formula's, and its id is not that of
+    /// a live parity.
+    #[inline(always)]
+    fn admit_parity(
+        &self,
+        room: Vec<Lit>,
+        live: &IndexedClauses,
+        id: u64,
+        lits: &IntList,
+    ) -> Result<LitList, JudgeRefusal>
+        ensures { Admits self.now.formula.now live.now.parities id lits.now result }
+    {
+        admit_into(
+            room,
+            self.formula.vars(),
+            lits,
+            live.has(Kind::Parities, id),
+        )
+    }
+
+    /// A clause of the formula: nothing is written.
+    pub fn take_original(
+        &self,
+        state: &mut State,
+        id: u64,
+        lits: IntList,
+    ) -> Result<Option<ProofStep>, JudgeRefusal>
+        requires originals { StandsFor self.now.originals self.now.formula.now }
+        ensures taken { TakesLogStep self.now.formula.now state.old (step.Original id lits) result state.new }
+        ensures text { IfOk result CanBePrinted }
+        ensures counts { OnOk result (CountsOneMore state.old state.new) }
+    {
+        let room = state.marks.literals();
+        let target = self.admit_clause(room, &state.live, id, &lits)?;
+        match self
+            .originals
+            .clause_number(self.alloc, self.formula, id, target.as_slice())?
+        {
+            Some(number) => {
+                put_live(&mut state.live, &mut state.marks, Kind::Clauses, id, target)?;
+                state.clauses.put_original(id, number)?;
+                state.spare.keep_literals(lits);
+                Ok(None)
+            }
+            None => Err(JudgeRefusal::Wrong(Cause::NotInFormula)),
         }
-        None => Err(JudgeRefusal::Wrong(Cause::NotInFormula)),
     }
-}
 
-/// A parity of the formula: nothing is written.
-pub fn take_original_parity(
-    alloc: Global,
-    formula: &Formula,
-    originals: &Originals,
-    state: &mut State,
-    id: u64,
-    lits: IntList,
-) -> Result<Option<ProofStep>, JudgeRefusal>
-    requires originals { StandsFor originals.now formula.now }
-    ensures taken { TakesLogStep formula.now state.old (step.OriginalParity id lits) result state.new }
-    ensures text { IfOk result CanBePrinted }
-    ensures counts { OnOk result (CountsOneMore state.old state.new) }
-{
-    let room = state.marks.literals();
-    let target = admit(room, formula, &state.live, Kind::Parities, id, &lits)?;
-    match originals.parity_number(alloc, formula, id, target.as_slice())? {
-        Some(number) => {
-            put_live(
-                &mut state.live,
-                &mut state.marks,
-                Kind::Parities,
-                id,
-                target,
-            )?;
-            state.parities.put_original(id, number)?;
-            state.spare.keep_literals(lits);
-            Ok(None)
+    /// A parity of the formula: nothing is written.
+    pub fn take_original_parity(
+        &self,
+        state: &mut State,
+        id: u64,
+        lits: IntList,
+    ) -> Result<Option<ProofStep>, JudgeRefusal>
+        requires originals { StandsFor self.now.originals self.now.formula.now }
+        ensures taken { TakesLogStep self.now.formula.now state.old (step.OriginalParity id lits) result state.new }
+        ensures text { IfOk result CanBePrinted }
+        ensures counts { OnOk result (CountsOneMore state.old state.new) }
+    {
+        let room = state.marks.literals();
+        let target = self.admit_parity(room, &state.live, id, &lits)?;
+        match self
+            .originals
+            .parity_number(self.alloc, self.formula, id, target.as_slice())?
+        {
+            Some(number) => {
+                put_live(
+                    &mut state.live,
+                    &mut state.marks,
+                    Kind::Parities,
+                    id,
+                    target,
+                )?;
+                state.parities.put_original(id, number)?;
+                state.spare.keep_literals(lits);
+                Ok(None)
+            }
+            None => Err(JudgeRefusal::Wrong(Cause::NotInFormula)),
         }
-        None => Err(JudgeRefusal::Wrong(Cause::NotInFormula)),
     }
-}
 
-/// A clause by a chain; the hints that the log gives are tried first.
-#[inline(always)]
-pub fn take_clause(
-    alloc: Global,
-    formula: &Formula,
-    state: &mut State,
-    id: u64,
-    lits: IntList,
-    mut hints: IntList,
-) -> Result<Option<ProofStep>, JudgeRefusal>
-    requires room { state.old.clauses.last < MAX_ID }
-    requires tied { (proof : Tables) × AreTied formula.now state.old.live proof (names_of state.old) }
-    ensures taken { TakesLogStep formula.now state.old (step.Clause id lits) result state.new }
-    ensures text { IfOk result CanBePrinted }
-    ensures counts { OnOk result (CountsOneMore state.old state.new) }
-{
-    let room = state.marks.literals();
-    let target = admit(room, formula, &state.live, Kind::Clauses, id, &lits)?;
-    settle_hints(alloc, &mut state.live, &state.clauses, &target, &mut hints)?;
-    put_live(&mut state.live, &mut state.marks, Kind::Clauses, id, target)?;
-    let next = state.clauses.put_next(id)?;
-    Ok(Some(clause_step(next, lits, hints)))
-}
-
-/// A parity as the sum of parities that the log names.
-#[inline(always)]
-pub fn take_parity(
-    formula: &Formula,
-    state: &mut State,
-    id: u64,
-    lits: IntList,
-    sources: IdList,
-) -> Result<Option<ProofStep>, JudgeRefusal>
-    requires room { state.old.parities.last < MAX_ID }
-    requires tied { (proof : Tables) × AreTied formula.now state.old.live proof (names_of state.old) }
-    ensures taken { TakesLogStep formula.now state.old (step.Parity id lits sources) result state.new }
-    ensures text { IfOk result CanBePrinted }
-    ensures counts { OnOk result (CountsOneMore state.old state.new) }
-{
-    let room = state.marks.literals();
-    let target = admit(room, formula, &state.live, Kind::Parities, id, &lits)?;
-    let ids = sources.as_slice();
-    judge_named_sum(&mut state.marks, state.live.live(), &target, ids)?;
-    let hints = hints_of(state.spare.hints(), &state.parities, ids)?;
-    state.spare.keep_ids(sources);
-    put_live(
-        &mut state.live,
-        &mut state.marks,
-        Kind::Parities,
-        id,
-        target,
-    )?;
-    let next = state.parities.put_next(id)?;
-    Ok(Some(parity_step(next, lits, hints)))
-}
-
-/// A parity that clauses imply, which the log names.
-#[inline(always)]
-pub fn take_parity_of_clauses(
-    formula: &Formula,
-    state: &mut State,
-    id: u64,
-    lits: IntList,
-    sources: IdList,
-) -> Result<Option<ProofStep>, JudgeRefusal>
-    requires room { state.old.parities.last < MAX_ID }
-    requires tied { (proof : Tables) × AreTied formula.now state.old.live proof (names_of state.old) }
-    ensures taken { TakesLogStep formula.now state.old (step.ParityOfClauses id lits sources) result state.new }
-    ensures text { IfOk result CanBePrinted }
-    ensures counts { OnOk result (CountsOneMore state.old state.new) }
-{
-    let room = state.marks.literals();
-    let target = admit(room, formula, &state.live, Kind::Parities, id, &lits)?;
-    let ids = sources.as_slice();
-    // By `?` the prover does not see the cause through.
-    match judge_parity_of_named_clauses(&mut state.marks, state.live.live(), &target, ids) {
-        Ok(()) => {}
-        Err(why) => return Err(why),
+    /// A clause by a chain; the hints that the log gives are tried first.
+    #[inline(always)]
+    pub fn take_clause(
+        &self,
+        state: &mut State,
+        id: u64,
+        lits: IntList,
+        mut hints: IntList,
+    ) -> Result<Option<ProofStep>, JudgeRefusal>
+        requires room { state.old.clauses.last < MAX_ID }
+        requires tied { (proof : Tables) × AreTied self.now.formula.now state.old.live proof (names_of state.old) }
+        ensures taken { TakesLogStep self.now.formula.now state.old (step.Clause id lits) result state.new }
+        ensures text { IfOk result CanBePrinted }
+        ensures counts { OnOk result (CountsOneMore state.old state.new) }
+    {
+        let room = state.marks.literals();
+        let target = self.admit_clause(room, &state.live, id, &lits)?;
+        settle_hints(
+            self.alloc,
+            &mut state.live,
+            &state.clauses,
+            &target,
+            &mut hints,
+        )?;
+        put_live(&mut state.live, &mut state.marks, Kind::Clauses, id, target)?;
+        let next = state.clauses.put_next(id)?;
+        Ok(Some(clause_step(next, lits, hints)))
     }
-    let hints = hints_of(state.spare.hints(), &state.clauses, ids)?;
-    state.spare.keep_ids(sources);
-    put_live(
-        &mut state.live,
-        &mut state.marks,
-        Kind::Parities,
-        id,
-        target,
-    )?;
-    let next = state.parities.put_next(id)?;
-    Ok(Some(parity_of_clauses_step(next, lits, hints)))
-}
 
-/// A clause that a parity implies, which the log names.
-#[inline(always)]
-pub fn take_clause_of_parity(
-    formula: &Formula,
-    state: &mut State,
-    id: u64,
-    lits: IntList,
-    source: u64,
-) -> Result<Option<ProofStep>, JudgeRefusal>
-    requires room { state.old.clauses.last < MAX_ID }
-    requires tied { (proof : Tables) × AreTied formula.now state.old.live proof (names_of state.old) }
-    ensures taken { TakesLogStep formula.now state.old (step.ClauseOfParity id lits source) result state.new }
-    ensures text { IfOk result CanBePrinted }
-    ensures counts { OnOk result (CountsOneMore state.old state.new) }
-{
-    let room = state.marks.literals();
-    let target = admit(room, formula, &state.live, Kind::Clauses, id, &lits)?;
-    judge_clause_of_named_parity(&mut state.marks, state.live.live(), &target, source)?;
-    let named = match state.parities.get(source) {
-        Some(named) => named,
-        // Nothing that is live in the log is without a name in the proof.
-        None => unreachable!(),
-    };
-    put_live(&mut state.live, &mut state.marks, Kind::Clauses, id, target)?;
-    let next = state.clauses.put_next(id)?;
-    Ok(Some(clause_of_parity_step(next, lits, named)))
+    /// A parity as the sum of parities that the log names.
+    #[inline(always)]
+    pub fn take_parity(
+        &self,
+        state: &mut State,
+        id: u64,
+        lits: IntList,
+        sources: IdList,
+    ) -> Result<Option<ProofStep>, JudgeRefusal>
+        requires room { state.old.parities.last < MAX_ID }
+        requires tied { (proof : Tables) × AreTied self.now.formula.now state.old.live proof (names_of state.old) }
+        ensures taken { TakesLogStep self.now.formula.now state.old (step.Parity id lits sources) result state.new }
+        ensures text { IfOk result CanBePrinted }
+        ensures counts { OnOk result (CountsOneMore state.old state.new) }
+    {
+        let room = state.marks.literals();
+        let target = self.admit_parity(room, &state.live, id, &lits)?;
+        let ids = sources.as_slice();
+        judge_named_sum(&mut state.marks, state.live.live(), &target, ids)?;
+        let hints = hints_of(state.spare.hints(), &state.parities, ids)?;
+        state.spare.keep_ids(sources);
+        put_live(
+            &mut state.live,
+            &mut state.marks,
+            Kind::Parities,
+            id,
+            target,
+        )?;
+        let next = state.parities.put_next(id)?;
+        Ok(Some(parity_step(next, lits, hints)))
+    }
+
+    /// A parity that clauses imply, which the log names.
+    #[inline(always)]
+    pub fn take_parity_of_clauses(
+        &self,
+        state: &mut State,
+        id: u64,
+        lits: IntList,
+        sources: IdList,
+    ) -> Result<Option<ProofStep>, JudgeRefusal>
+        requires room { state.old.parities.last < MAX_ID }
+        requires tied { (proof : Tables) × AreTied self.now.formula.now state.old.live proof (names_of state.old) }
+        ensures taken { TakesLogStep self.now.formula.now state.old (step.ParityOfClauses id lits sources) result state.new }
+        ensures text { IfOk result CanBePrinted }
+        ensures counts { OnOk result (CountsOneMore state.old state.new) }
+    {
+        let room = state.marks.literals();
+        let target = self.admit_parity(room, &state.live, id, &lits)?;
+        let ids = sources.as_slice();
+        // By `?` the prover does not see the cause through.
+        match judge_parity_of_named_clauses(&mut state.marks, state.live.live(), &target, ids) {
+            Ok(()) => {}
+            Err(why) => return Err(why),
+        }
+        let hints = hints_of(state.spare.hints(), &state.clauses, ids)?;
+        state.spare.keep_ids(sources);
+        put_live(
+            &mut state.live,
+            &mut state.marks,
+            Kind::Parities,
+            id,
+            target,
+        )?;
+        let next = state.parities.put_next(id)?;
+        Ok(Some(parity_of_clauses_step(next, lits, hints)))
+    }
+
+    /// A clause that a parity implies, which the log names.
+    #[inline(always)]
+    pub fn take_clause_of_parity(
+        &self,
+        state: &mut State,
+        id: u64,
+        lits: IntList,
+        source: u64,
+    ) -> Result<Option<ProofStep>, JudgeRefusal>
+        requires room { state.old.clauses.last < MAX_ID }
+        requires tied { (proof : Tables) × AreTied self.now.formula.now state.old.live proof (names_of state.old) }
+        ensures taken { TakesLogStep self.now.formula.now state.old (step.ClauseOfParity id lits source) result state.new }
+        ensures text { IfOk result CanBePrinted }
+        ensures counts { OnOk result (CountsOneMore state.old state.new) }
+    {
+        let room = state.marks.literals();
+        let target = self.admit_clause(room, &state.live, id, &lits)?;
+        judge_clause_of_named_parity(&mut state.marks, state.live.live(), &target, source)?;
+        let named = match state.parities.get(source) {
+            Some(named) => named,
+            // Nothing that is live in the log is without a name in the proof.
+            None => unreachable!(),
+        };
+        put_live(&mut state.live, &mut state.marks, Kind::Clauses, id, target)?;
+        let next = state.clauses.put_next(id)?;
+        Ok(Some(clause_of_parity_step(next, lits, named)))
+    }
 }

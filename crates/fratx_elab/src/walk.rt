@@ -8,10 +8,11 @@ ghost use Rattle.fratx_elab.specs.Outcomes.{IsElaborated, IsCutOff, Kept, Turns,
 ghost use Rattle.fratx_elab.specs.Takes.{CanBePrinted, HasRoom, CanTakeNext};
 ghost use Rattle.fratx_elab.specs.Writing.{WritesDown};
 
+use crate::elaboration::Elaboration;
 use crate::ends::ElabEnds;
 use crate::naming::Names;
-use crate::one_step::{ends_log, take_step};
-use crate::originals::{Counts, Originals, count_kinds};
+use crate::one_step::ends_log;
+use crate::originals::{Originals, count_kinds};
 use crate::outcome::{Elab, ElabFault};
 use crate::state::{State, keep_memory};
 use cx_base::{Formula, LogStep, ProofStep};
@@ -83,65 +84,57 @@ fn what_follows(
     }
 }
 
-/// Takes the next step, after this many; none where the log goes on.
-fn take_next<E: ElabEnds>(
-    alloc: Global,
-    formula: &Formula,
-    counts: Counts,
-    originals: &Originals,
-    state: &mut State,
-    ends: &mut E,
-    steps: u64,
-) -> Result<Option<Elab>, ElabFault>
-    requires originals { StandsFor originals.now formula.now }
-    requires counts { AreCounts counts formula.now }
-    requires state { CanTakeNext formula.now state.old steps }
-    requires ready { IsReady E.view ends.old }
-    ensures turns { (text : List ℕ) (first : E) → E.view.may_read ends.new text → Kept (λ a. E.view.leaves a text) E.view.steps E.view.torn formula.now first ends.old state.old steps
-        → Turns (λ a. E.view.leaves a text) E.view.steps E.view.torn formula.now first ends.new state.new steps result }
-    ensures next { IfOk result (λ elab. elab ≡ None → GoesOn E.view ends.old ends.new state.new (steps + 1)) }
-    ensures limits { KeepsLimits E.view ends.old ends.new }
-    ensures ends { LeavesEnds E.view ends.old result ends.new }
-{
-    let step = match ends.next_step(&mut state.spare) {
-        Ok(Some(step)) => step,
-        Ok(None) => return Ok(Some(Elab::Refused(steps + 1, Cause::NoEmptyClause))),
-        Err(why) => return refused_text(why, steps + 1),
-    };
-    let is_last = ends_log(formula, &step);
-    let written = match take_step(alloc, formula, counts, originals, state, step) {
-        Ok(written) => written,
-        Err(why) => return refused_step(why, steps + 1),
-    };
-    let wrote = write(ends, &written);
-    keep_memory(&mut state.spare, written);
-    what_follows(wrote, is_last, steps + 1)
-}
+impl Elaboration<'_> {
+    /// Takes the next step, after this many; none where the log goes on.
+    fn take_next<E: ElabEnds>(
+        &self,
+        state: &mut State,
+        ends: &mut E,
+        steps: u64,
+    ) -> Result<Option<Elab>, ElabFault>
+        requires originals { StandsFor self.now.originals self.now.formula.now }
+        requires counts { AreCounts self.now.counts self.now.formula.now }
+        requires state { CanTakeNext self.now.formula.now state.old steps }
+        requires ready { IsReady E.view ends.old }
+        ensures turns { (text : List ℕ) (first : E) → E.view.may_read ends.new text → Kept (λ a. E.view.leaves a text) E.view.steps E.view.torn self.now.formula.now first ends.old state.old steps
+            → Turns (λ a. E.view.leaves a text) E.view.steps E.view.torn self.now.formula.now first ends.new state.new steps result }
+        ensures next { IfOk result (λ elab. elab ≡ None → GoesOn E.view ends.old ends.new state.new (steps + 1)) }
+        ensures limits { KeepsLimits E.view ends.old ends.new }
+        ensures ends { LeavesEnds E.view ends.old result ends.new }
+    {
+        let step = match ends.next_step(&mut state.spare) {
+            Ok(Some(step)) => step,
+            Ok(None) => return Ok(Some(Elab::Refused(steps + 1, Cause::NoEmptyClause))),
+            Err(why) => return refused_text(why, steps + 1),
+        };
+        let is_last = ends_log(self.formula, &step);
+        let written = match self.take_step(state, step) {
+            Ok(written) => written,
+            Err(why) => return refused_step(why, steps + 1),
+        };
+        let wrote = write(ends, &written);
+        keep_memory(&mut state.spare, written);
+        what_follows(wrote, is_last, steps + 1)
+    }
 
-/// Takes one step after another, from the first on.
-fn take_all<E: ElabEnds>(
-    alloc: Global,
-    formula: &Formula,
-    counts: Counts,
-    originals: &Originals,
-    state: &mut State,
-    ends: &mut E,
-) -> Result<Elab, ElabFault>
-    requires originals { StandsFor originals.now formula.now }
-    requires counts { AreCounts counts formula.now }
-    requires room { HasRoom state.old 0 }
-    requires kept { (text : List ℕ) → E.view.may_read ends.old text → Kept (λ a. E.view.leaves a text) E.view.steps E.view.torn formula.now ends.old ends.old state.old 0 }
-    requires ready { IsReady E.view ends.old }
-    ensures judged { (text : List ℕ) → E.view.may_read ends.new text → IfOk result (IsElaborated (λ a. E.view.leaves a text) E.view.steps E.view.torn formula.now ends.old ends.new) }
-    ensures cut_off { IfErr result (IsCutOff E.view.steps E.view.torn formula.now ends.old ends.new) }
-    ensures ends { LeavesEnds E.view ends.old result ends.new }
-{
-    let mut steps = 0;
-    loop {
-        match take_next(alloc, formula, counts, originals, state, ends, steps) {
-            Ok(None) => steps += 1,
-            Ok(Some(elab)) => return Ok(elab),
-            Err(fault) => return Err(fault),
+    /// Takes one step after another, from the first on.
+    fn take_all<E: ElabEnds>(&self, state: &mut State, ends: &mut E) -> Result<Elab, ElabFault>
+        requires originals { StandsFor self.now.originals self.now.formula.now }
+        requires counts { AreCounts self.now.counts self.now.formula.now }
+        requires room { HasRoom state.old 0 }
+        requires kept { (text : List ℕ) → E.view.may_read ends.old text → Kept (λ a. E.view.leaves a text) E.view.steps E.view.torn self.now.formula.now ends.old ends.old state.old 0 }
+        requires ready { IsReady E.view ends.old }
+        ensures judged { (text : List ℕ) → E.view.may_read ends.new text → IfOk result (IsElaborated (λ a. E.view.leaves a text) E.view.steps E.view.torn self.now.formula.now ends.old ends.new) }
+        ensures cut_off { IfErr result (IsCutOff E.view.steps E.view.torn self.now.formula.now ends.old ends.new) }
+        ensures ends { LeavesEnds E.view ends.old result ends.new }
+    {
+        let mut steps = 0;
+        loop {
+            match self.take_next(state, ends, steps) {
+                Ok(None) => steps += 1,
+                Ok(Some(elab)) => return Ok(elab),
+                Err(fault) => return Err(fault),
+            }
         }
     }
 }
@@ -176,5 +169,11 @@ pub fn elaborate<E: ElabEnds>(
         marks: JudgeMarks::new(alloc),
         spare: SpareLists::new(alloc),
     };
-    take_all(alloc, formula, counts, &originals, &mut state, ends)
+    let elaboration = Elaboration {
+        alloc,
+        formula,
+        counts,
+        originals,
+    };
+    elaboration.take_all(&mut state, ends)
 }

@@ -9,7 +9,7 @@ use Rattle.cx_base.specs.declared.steps.ProofStep.TheVariants as step
 use Rattle.fratx_elab.specs.Names.{hints_for}
 use Rattle.fratx_elab.proofs.NameLaws.{named_as_live}
 use Rattle.fratx_elab.proofs.Taking.{names_live, takes_parity_of_clauses}
-use Rattle.fratx_elab.proofs.take.take_parity_of_clauses.Goals as goal
+use Rattle.fratx_elab.proofs.elaboration.Elaboration.take_parity_of_clauses.Goals as goal
 
 pub hints_of-requires : goal.hints_of-requires
 hints_of-requires c =
@@ -21,7 +21,7 @@ hints_of-requires c =
 
 pub returns-clause-taken : goal.returns-clause-taken
 returns-clause-taken c =
-    let formula = c.args.formula.now in
+    let formula = c.args.self.now.formula.now in
     let state = c.args.state.now in
     let lits = c.args.lits in
     let ids : List ℕ = c.as_slice-ids.result.now in

@@ -6,11 +6,11 @@ use Rattle.cx_semantics.specs.ProofRules.{clause_of_parity}
 use Rattle.cx_semantics.specs.Tables.{Tables, named, put_clause}
 use Rattle.cx_base.specs.declared.steps.ProofStep.TheVariants as step
 use Rattle.fratx_elab.proofs.Taking.{takes_clause_of_parity}
-use Rattle.fratx_elab.proofs.take.take_clause_of_parity.Goals as goal
+use Rattle.fratx_elab.proofs.elaboration.Elaboration.take_clause_of_parity.Goals as goal
 
 pub returns-clause-taken : goal.returns-clause-taken
 returns-clause-taken c =
-    let formula = c.args.formula.now in
+    let formula = c.args.self.now.formula.now in
     let state = c.args.state.now in
     let lits = c.args.lits in
     let ids = c.args.source ∷ [] in

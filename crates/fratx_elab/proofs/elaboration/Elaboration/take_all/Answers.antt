@@ -2,7 +2,7 @@ use Rattle.std.proofs.Common.{◌∙◌, refl, subst, Option, arith}
 use Rattle.fratx_elab.specs.Outcomes.{Goes}
 use Rattle.fratx_elab.specs.declared.outcome.Elab.{Elab}
 use Rattle.fratx_elab.proofs.Leaving.{fault_leaves}
-use Rattle.fratx_elab.proofs.walk.take_all.Goals as goal
+use Rattle.fratx_elab.proofs.elaboration.Elaboration.take_all.Goals as goal
 
 pub loop-steps-init : goal.loop-steps-init
 loop-steps-init g c =
@@ -22,7 +22,7 @@ loop-steps-init g c =
 
 pub returns-in-Ok-Some-clause-judged : goal.returns-in-Ok-Some-clause-judged
 returns-in-Ok-Some-clause-judged g c = λ text may.
-    let P : Option Elab → Type 0 = Goes (λ a. g.E.ElabEnds.view.leaves a text) g.E.ElabEnds.view.steps g.E.ElabEnds.view.torn c.args.formula.now c.args.ends.now c.take_next.new.ends c.take_next.new.state c.loop-steps.steps in
+    let P : Option Elab → Type 0 = Goes (λ a. g.E.ElabEnds.view.leaves a text) g.E.ElabEnds.view.steps g.E.ElabEnds.view.torn c.args.self.now.formula.now c.args.ends.now c.take_next.new.ends c.take_next.new.state c.loop-steps.steps in
     subst P c.in-Ok-Some.field-0-is (c.in-Ok-Some.ensures.turns text c.args.ends.now may (c.loop-steps.invariant.kept text (c.in-Ok-Some.ensures.ends.narrows text may)))
 
 pub returns-in-Ok-Some-clause-ends : goal.returns-in-Ok-Some-clause-ends
@@ -66,7 +66,7 @@ loop-steps-preserved g c =
     let taken = c.in-Ok-None.ensures.ends in
     record {
       kept = λ text may.
-          let P : Option Elab → Type 0 = Goes (λ a. g.E.ElabEnds.view.leaves a text) g.E.ElabEnds.view.steps g.E.ElabEnds.view.torn c.args.formula.now c.args.ends.now c.take_next.new.ends c.take_next.new.state c.loop-steps.steps in
+          let P : Option Elab → Type 0 = Goes (λ a. g.E.ElabEnds.view.leaves a text) g.E.ElabEnds.view.steps g.E.ElabEnds.view.torn c.args.self.now.formula.now c.args.ends.now c.take_next.new.ends c.take_next.new.state c.loop-steps.steps in
           subst P none (c.in-Ok-None.ensures.turns text c.args.ends.now may (before.kept text (taken.narrows text may)));
       narrows = λ text may. before.narrows text (taken.narrows text may);
       room = next.room;

@@ -4,11 +4,11 @@ use Rattle.cx_semantics.specs.LogRules.{is_original}
 use Rattle.cx_semantics.specs.Tables.{put_clause}
 use Rattle.fratx_elab.specs.Elaborates.{IsClauseNumber}
 use Rattle.fratx_elab.proofs.Taking.{takes_original}
-use Rattle.fratx_elab.proofs.take.take_original.Goals as goal
+use Rattle.fratx_elab.proofs.elaboration.Elaboration.take_original.Goals as goal
 
 pub returns-in_ok-put_original-in-Some-clause-taken : goal.returns-in_ok-put_original-in-Some-clause-taken
 returns-in_ok-put_original-in-Some-clause-taken c =
-    let formula = c.args.formula.now in
+    let formula = c.args.self.now.formula.now in
     let lits = c.args.lits in
     let k = c.in-Some.number in
     let added = c.in_ok-target.ensures.0 in

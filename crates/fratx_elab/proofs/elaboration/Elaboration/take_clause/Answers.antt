@@ -4,11 +4,11 @@ use Rattle.cx_semantics.specs.Chain.{IsChain}
 use Rattle.cx_semantics.specs.Tables.{Tables, named, put_clause}
 use Rattle.cx_base.specs.declared.steps.ProofStep.TheVariants as step
 use Rattle.fratx_elab.proofs.Taking.{takes_clause}
-use Rattle.fratx_elab.proofs.take.take_clause.Goals as goal
+use Rattle.fratx_elab.proofs.elaboration.Elaboration.take_clause.Goals as goal
 
 pub returns-clause-taken : goal.returns-clause-taken
 returns-clause-taken c =
-    let formula = c.args.formula.now in
+    let formula = c.args.self.now.formula.now in
     let state = c.args.state.now in
     let lits = c.args.lits in
     let added = c.in_ok-target.ensures.0 in

@@ -6,24 +6,24 @@ use Rattle.fratx_elab.specs.Writing.{WritesDown}
 use Rattle.fratx_elab.specs.declared.state.State.{State}
 use Rattle.fratx_elab.proofs.Leaving.{no_step_leaves, refusal_leaves, write_leaves}
 use Rattle.fratx_elab.proofs.Turns.{end_is_refused, text_is_refused, refusal_turns, write_turns}
-use Rattle.fratx_elab.proofs.walk.take_next.Goals as goal
+use Rattle.fratx_elab.proofs.elaboration.Elaboration.take_next.Goals as goal
 
 pub returns-in-Ok-None-clause-turns : goal.returns-in-Ok-None-clause-turns
 returns-in-Ok-None-clause-turns g c = λ text first may kept.
     let h = subst (λ (o : Option LogStep). Gives (λ a. g.E.ElabEnds.view.leaves a text) c.args.ends.now (Ok o) c.next_step.new.self) c.in-Ok-None.field-0-is (c.in-Ok-None.ensures.texts text may).step in
-    end_is_refused _ _ _ c.args.formula.now first c.args.ends.now c.next_step.new.self c.args.state.now _ kept finished _ refl h.0 c.in-Ok-None.ensures.sink.steps
+    end_is_refused _ _ _ c.args.self.now.formula.now first c.args.ends.now c.next_step.new.self c.args.state.now _ kept finished _ refl h.0 c.in-Ok-None.ensures.sink.steps
 
 pub returns-in-Err-clause-turns : goal.returns-in-Err-clause-turns
 returns-in-Err-clause-turns g c = λ text first may kept.
     let old = c.args.state.now in
     let read : State = record { live = old.live; clauses = old.clauses; parities = old.parities; marks = old.marks; spare = c.next_step.new.spare } in
-    rw c.refused_text.ensures (text_is_refused _ _ _ c.args.formula.now first c.args.ends.now c.next_step.new.self old _ kept read c.in-Err.why (c.in-Err.ensures.texts text may).step c.in-Err.ensures.sink.steps)
+    rw c.refused_text.ensures (text_is_refused _ _ _ c.args.self.now.formula.now first c.args.ends.now c.next_step.new.self old _ kept read c.in-Err.why (c.in-Err.ensures.texts text may).step c.in-Err.ensures.sink.steps)
 
 pub returns-in-Err-take_step-clause-turns : goal.returns-in-Err-take_step-clause-turns
 returns-in-Err-take_step-clause-turns g c = λ text first may kept.
     let h = subst (λ (o : Option LogStep). Gives (λ a. g.E.ElabEnds.view.leaves a text) c.args.ends.now (Ok o) c.next_step.new.self) c.in-Ok-Some.field-0-is (c.in-Ok-Some.ensures.texts text may).step in
     rw c.refused_step.ensures
-    (refusal_turns _ _ _ c.args.formula.now first c.args.ends.now c.next_step.new.self c.args.state.now _ kept c.in-Ok-Some.step h (g.met.E.ElabEnds.leaves_some c.next_step.new.self text may)
+    (refusal_turns _ _ _ c.args.self.now.formula.now first c.args.ends.now c.next_step.new.self c.args.state.now _ kept c.in-Ok-Some.step h (g.met.E.ElabEnds.leaves_some c.next_step.new.self text may)
     c.take_step.new.state c.in-Err-take_step.why c.in-Err-take_step.ensures.taken c.in-Ok-Some.ensures.sink.steps)
 
 pub returns-clause-turns : goal.returns-clause-turns
@@ -35,7 +35,7 @@ returns-clause-turns g c = λ text first may kept.
     let taken = c.take_step.new.state in
     let kept_memory : State = record { live = taken.live; clauses = taken.clauses; parities = taken.parities; marks = taken.marks; spare = c.keep_memory.new.spare } in
     rw c.what_follows.ensures
-    (write_turns _ _ _ c.args.formula.now first old new c.args.state.now _ kept c.in-Ok-Some.step (λ steps ending k. h steps ending ((c.write-wrote.ensures.source.rest text steps ending).0 k)) (g.met.E.ElabEnds.leaves_some new text may)
+    (write_turns _ _ _ c.args.self.now.formula.now first old new c.args.state.now _ kept c.in-Ok-Some.step (λ steps ending k. h steps ending ((c.write-wrote.ensures.source.rest text steps ending).0 k)) (g.met.E.ElabEnds.leaves_some new text may)
     kept_memory c.in-Ok.written c.in-Ok.ensures.taken c.write-wrote.result told c.ends_log-is_last.result c.ends_log-is_last.ensures)
 
 pub returns-in-Ok-None-clause-ends : goal.returns-in-Ok-None-clause-ends

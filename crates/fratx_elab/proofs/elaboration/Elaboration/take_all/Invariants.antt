@@ -2,11 +2,11 @@ use Rattle.std.proofs.Common.{ℕ, List, ◌≡◌, ◌≤◌, ◌-◌, ◌^◌}
 use Rattle.fratx_elab.specs.Ends.{IsReady}
 use Rattle.fratx_elab.specs.Outcomes.{Kept}
 use Rattle.fratx_elab.specs.Takes.{HasRoom}
-use Rattle.fratx_elab.proofs.walk.take_all.Given as goal
+use Rattle.fratx_elab.proofs.elaboration.Elaboration.take_all.Given as goal
 
 abbrev pub invariant-loop-steps : goal.invariant-loop-steps
 invariant-loop-steps g l = record {
-  kept : (text : List ℕ) → g.E.ElabEnds.view.may_read l.ends text → Kept (λ a. g.E.ElabEnds.view.leaves a text) g.E.ElabEnds.view.steps g.E.ElabEnds.view.torn l.formula l.initial.ends l.ends l.state l.steps;
+  kept : (text : List ℕ) → g.E.ElabEnds.view.may_read l.ends text → Kept (λ a. g.E.ElabEnds.view.leaves a text) g.E.ElabEnds.view.steps g.E.ElabEnds.view.torn l.self.formula.now l.initial.ends l.ends l.state l.steps;
   narrows : (text : List ℕ) → g.E.ElabEnds.view.may_read l.ends text → g.E.ElabEnds.view.may_read l.initial.ends text;
   room : HasRoom l.state l.steps;
   ready : IsReady g.E.ElabEnds.view l.ends;
