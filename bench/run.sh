@@ -43,20 +43,19 @@ printf '%s\n' "${scripts[@]}" | xargs -P "$lanes" -I NAME bash -c "'$here'/*/NAM
 ## The tables
 
 Made by \`bench/run.sh\` in one run, $lanes of its scripts at a time. Times are processor time of whole processes, one run each (the reader: the best of
-five; elaborating, trimming and random parities' solutions: the least of fifteen). The last column is cxsat's number over that of what is
-beside it: below 1 cxsat took less, but in the row of propagation, where above 1 it did more. Where a peer was cut off, the ratio is over the limit and so an upper bound.
+five; elaborating, trimming and random parities' solutions: the least of fifteen). A ratio is cxsat's number over that of what is beside it: below 1
+cxsat took less, but in the row of propagation, where above 1 it did more. Where a peer was cut off, the ratio is over the limit and so an upper bound.
+The last column says how cxsat is beside other solvers; from 0.9 to 1.1 is level.
 
 - date: $(date -u +%F), commit $(git -C "$here" rev-parse --short HEAD)
 - processor: $(lscpu | sed -n 's/^Model name: *//p'), $(nproc) processors; load before the run $load
 - built by: $(rt version | head -n 1)
 - beside it: $(version minisat), $(version cadical), $(version cryptominisat), $(gcc --version | head -n 1) with -O2
 
-| what | on what | cxsat | beside it | ratio |
-| --- | --- | --- | --- | --- |
 TEXT
     for script in reader check elab trim slot foreign solve families parities affine blast recover propagate memory limits rows; do
         cat "$work/$script.rows"
-    done | without_short_runs
+    done | without_short_runs | "$here/table.py"
     echo
     echo "Texts at the limits (\`bench/hostile/hostile.sh\`): $(grep -c '^as wanted' "$work/hostile.rows") tried, $(tail -n 1 "$work/hostile.rows")."
 } > "$work/results"

@@ -45,7 +45,7 @@ sum() {
 
 # A family: its name in words, how it is made (a file of make/ and a kind), its size, and its answer.
 measure() {
-    local words=$1 maker=$2 kind=$3 size=$4 wanted=$5 seed solver beside=
+    local words=$1 maker=$2 kind=$3 size=$4 wanted=$5 seed solver
     [ "$chosen" = '  ' ] || [[ $chosen = *" $kind "* ]] || return 0
     : > "$work/taken"
     for ((seed = 1; seed <= seeds; seed++)); do
@@ -55,9 +55,10 @@ measure() {
         esac
         solve_by_all "$words $size, seed $seed" "$wanted"
     done
-    for solver in "${solvers[@]:1}"; do beside+="${beside:+; }$solver: $(sum "$solver")"; done
-    row 'solving, sums' "$words $size, $seeds formulas" "$(sum cxsat)" "$beside" \
-        "$(ratio "$(sum cxsat | awk '{ print $3 }')" "$(for solver in "${solvers[@]:1}"; do sum "$solver" | awk '{ print $3 }'; echo; done | sort -n | awk 'NF { print; exit }')")"
+    for solver in "${solvers[@]:1}"; do
+        row 'solving, sums' "$words $size, $seeds formulas" "$(sum cxsat)" "$solver: $(sum "$solver")" \
+            "$(ratio "$(sum cxsat | awk '{ print $3 }')" "$(sum "$solver" | awk '{ print $3 }')")"
+    done
 }
 
 measure 'random 3-clauses near the threshold, variables:' awk random 200 any
