@@ -33,7 +33,7 @@ use Rattle.cdcl_core.proofs.Entering.{round_is_search, conflicts_then, tidy}
 search_is_open : (formula : Problem) (parities : List (List Literal)) (s : Search) (n : ℕ) (told : Option (List LogEvent)) → IsSearch formula parities s → s.moment.awaits ≡ false → s.conflicts ≡ n → AreTold told s.events → IsOpenWith formula n told
 search_is_open formula parities s n None ok served count a = tt
 search_is_open formula parities s n (Some es) ok served count a = subst (λ xs. IsOpenWith formula n (Some xs)) (sym a)
-    (is_log_open formula parities s ok served, subst (Marked formula s.events) count (is_marked formula parities s ok served), ok.log.scheduled)
+    (is_log_open formula parities s ok served, subst (Marked formula s.events) count (is_marked formula parities s ok served), ok.log.scheduled, ok.log.hinted)
 
 -- between two conflicts the log is open, with a mark for each counted one
 pub log_is_open : (formula : Problem) (c : SearchState) (e : State) (rows : List (List Literal)) (told : Option (List LogEvent)) → SearchStands formula c e rows told → IsOpenWith formula c.conflicts told
@@ -42,7 +42,7 @@ log_is_open formula c e rows told (s, ok, a, t, f) = search_is_open formula e.pa
 -- after a learned clause it is open, with one mark more
 pub learned_log_is_open : (formula : Problem) (c : SearchState) (e : State) (lits : List Literal) (back : ℕ) (told : Option (List LogEvent)) → Learns formula c e lits back told → IsOpenWith formula (c.conflicts + 1) told
 learned_log_is_open formula c e lits back told l = search_is_open formula e.parities (after_round l.search c.next (integers_of lits) l.hints back l.taught.first) (c.conflicts + 1) told
-    (round_is_search formula c e lits back l.search l.taught l.hints) (tidy formula c e lits back l.search l.taught l.hints).served (conflicts_then formula c e lits back l.search l.taught l.hints) l.told_is
+    (round_is_search formula c e lits back l.search l.taught l.hints l.right) (tidy formula c e lits back l.search l.taught l.hints).served (conflicts_then formula c e lits back l.search l.taught l.hints) l.told_is
 
 -- ---- settled answers
 pub values_are_known : (values : List Bool) (n : ℕ) → Sat values ≡ Unknown n → ⊥
@@ -54,7 +54,7 @@ unsat_is_known failed n is = cc
 -- fewer marks than one number are fewer than a greater one
 pub refutes_within : (formula : Problem) (n budget : ℕ) (told : Option (List LogEvent)) (failed : List Literal) → n ≤ budget → Refutes formula n told failed → Refutes formula budget told failed
 refutes_within formula n budget None failed few r = record { unmet = r.unmet; fails = r.fails; clash = r.clash; log = tt }
-refutes_within formula n budget (Some events) failed few r = let less = r.log.1.1 in record { unmet = r.unmet; fails = r.fails; clash = r.clash; log = (r.log.0, (r.log.1.0, omega (arith, less, few), r.log.1.2), r.log.2) }
+refutes_within formula n budget (Some events) failed few r = let less = r.log.1.1 in record { unmet = r.unmet; fails = r.fails; clash = r.clash; log = (r.log.0, (r.log.1.0, omega (arith, less, few), r.log.1.2), r.log.2, r.log.3) }
 
 -- ---- at the end
 -- where nothing is told, it is right so far

@@ -8,7 +8,9 @@ use Rattle.cx_semantics.specs.Marked.{Marked, original_events}
 use Rattle.cx_semantics.proofs.FailingLaws.{clashes_fail}
 use Rattle.search_steps.specs.Search.{Search}
 use Rattle.search_steps.specs.Start.{IsBegun}
+use Rattle.search_steps.specs.Hints.{AreHinted}
 use Rattle.search_steps.specs.Schedule.{IsScheduled}
+use Rattle.search_steps.proofs.HintLaws.{originals_are_hinted}
 use Rattle.search_steps.proofs.ScheduleLaws.{originals_are_scheduled}
 use Rattle.search_steps.proofs.Ends.{ended_is_unmet}
 use Rattle.cdcl_core.specs.Originals.{HasBegun}
@@ -34,5 +36,6 @@ clash_refutes formula x budget some clash c (Some es) b = record {
     record { ended = inl c; last = λ apart. absurd (true≢false (sym c ∙ apart)) },
     (0, omega (arith, some), subst (λ xs. Marked formula xs 0) (sym b.4) (begun_is_marked formula b.0 b.1)),
     subst IsScheduled (sym b.4) (originals_are_scheduled formula.constraints b.0.events b.1.originals),
+    subst AreHinted (sym b.4) (originals_are_hinted formula.constraints b.0.events b.1.originals),
   );
 }

@@ -1,5 +1,5 @@
 -- The row of a contradiction explains a conflict, and what a conflict comes to.
-use Rattle.std.proofs.Common.{◌≡◌, sym, ap, ◌∙◌, subst, ℕ, ◌+◌, ◌≤◌, true, List, [], ◌∷◌, length, Contains, Option, None, arith, inl, inr, Some}
+use Rattle.std.proofs.Common.{◌≡◌, sym, ap, ◌∙◌, subst, ℕ, ◌+◌, ◌≤◌, true, List, [], ◌∷◌, length, get_or, Option, None, arith, inl, inr, Some}
 use Rattle.std.specs.List.{All, AllByRecursion}
 use Rattle.std.proofs.lemmas.Option.{same_Some}
 use Rattle.cx_base.specs.Literals.{Literal}
@@ -7,7 +7,7 @@ use Rattle.cx_base.specs.Problem.{Problem}
 use Rattle.cx_semantics.specs.Chain.{has_literal}
 use Rattle.cx_base.specs.Assumptions.{is_ending, IsFailed}
 use Rattle.cx_base.specs.declared.steps.LogEvent.{LogEvent}
-use Rattle.clause_arena.specs.Clauses.{IsLive, literals_at}
+use Rattle.clause_arena.specs.Clauses.{IsLive, id_at, literals_at}
 use Rattle.parity_engine.specs.State.{State, Named, named_at, OfNamed}
 use Rattle.parity_engine.specs.Equations.{sum_of_numbers}
 use Rattle.parity_engine.specs.Written.{IsWritten, AreRising}
@@ -35,7 +35,7 @@ use Rattle.cdcl_core.specs.declared.conflicts.LogEnd.{LogEnd}
 use Rattle.cdcl_core.specs.declared.shortening.UnitClause.{UnitClause}
 use Rattle.cdcl_core.proofs.ShortLaws.{known_by, short_by, IsUnitIn, IsReadyToEnd, IsLeftOfRow, ready_to_end, is_left, told_units, left_inside, left_is_unmet, left_fails, left_ends, negations_all, false_negations}
 use Rattle.conflict_learn.specs.Learning.{IsAntecedent}
-use Rattle.cdcl_search.specs.Sources.{IsSourced}
+use Rattle.cdcl_search.specs.Sources.{IsSourcedBy}
 use Rattle.cdcl_search.proofs.RowReasons as reasons
 
 -- what a row is that is against: it is named, its variables are assigned, and it is a reason of its kind
@@ -53,18 +53,18 @@ module _ (formula : Problem) (c : SearchState) (e : State) (told : Option (List 
       known_is_true e fed.older fed.values fed.newer c.trail.entries (subst (λ es. IsTied es c.trail.entries) fed.parts st.3.trail.follows.tied) l h
 
   -- a stored clause that is falsified
-  pub stored_concludes : (r : ℕ) → IsLive c.arena r → IsFalsified c.trail.entries (literals_at c.arena r) → (k : Conflict) → k.lits ≡ literals_at c.arena r → k.rows.items ≡ [] → IsId k.id → Concludes formula c e told None (Clause k)
-  stored_concludes r live falsified k are none is_id = (
+  pub stored_concludes : (r : ℕ) → IsLive c.arena r → IsFalsified c.trail.entries (literals_at c.arena r) → (k : Conflict) → k.lits ≡ literals_at c.arena r → k.id ≡ id_at c.arena r → k.rows.items ≡ [] → IsId k.id → Concludes formula c e told None (Clause k)
+  stored_concludes r live falsified k are at none is_id = (
     subst (λ rows. SearchStands formula c e rows told) (sym none) st,
-    record { sourced = inl (r, live, are); all_false = λ m h. falsified m (of_has (literals_at c.arena r) m (ap (λ ls. has_literal ls m) (sym are) ∙ h)) },
+    record { sourced = inl (r, live, are, at); all_false = λ m h. falsified m (of_has (literals_at c.arena r) m (ap (λ ls. has_literal ls m) (sym are) ∙ h)) },
     (is_id, let long = ap length none in omega (arith, long)),
   )
 
   -- a stored clause or a unit clause that implied a literal
-  pub hinted_concludes : (l : Literal) (k : Conflict) → k.rows.items ≡ [] → IsId k.id → IsSourced c [] k.lits → IsAntecedent c.trail l k.lits → Concludes formula c e told (Some l) (Clause k)
+  pub hinted_concludes : (l : Literal) (k : Conflict) → k.rows.items ≡ [] → IsId k.id → IsSourcedBy c [] k.lits k.id → IsAntecedent c.trail l k.lits → Concludes formula c e told (Some l) (Clause k)
   hinted_concludes l k none is_id sourced implied = (
     subst (λ rows. SearchStands formula c e rows told) (sym none) st,
-    (subst (λ rows. IsSourced c rows k.lits) (sym none) sourced, implied),
+    (subst (λ rows. IsSourcedBy c rows k.lits k.id) (sym none) sourced, implied),
     (is_id, let long = ap length none in omega (arith, long)),
   )
 
@@ -157,23 +157,23 @@ module _ (formula : Problem) (c : SearchState) (e : State) (told : Option (List 
     row_is_false clash reason clause = (clause clash.0 clash.1).are_false
 
     -- the clause of the row, where it was told
-    is_told_row : (rows : List (List Literal)) (lits clause : List Literal) → lits ≡ clause → rows ≡ clause ∷ [] → IsSourced c rows lits
-    is_told_row rows lits clause are told_rows = inr (inr (subst (λ xs. Contains xs lits) (sym told_rows) (0, omega arith, sym are)))
+    is_told_row : (rows : List (List Literal)) (lits clause : List Literal) (n : ℕ) → lits ≡ clause → n ≡ first_row_id c.next → rows ≡ clause ∷ [] → IsSourcedBy c rows lits n
+    is_told_row rows lits clause n are at told_rows = inr (inr (0, (let one = ap length told_rows in omega (arith, one)), are ∙ sym (ap (λ xs. get_or xs 0 []) told_rows), omega (arith, at)))
 
     pub row_is_against : (kept : Option Literal) (at : IsRowAgainst c e row kept) (reason : ReasonOf) → OfNamed e row (λ n. IsWritten n.form reason.parity) → AreRising 1 (length e.parities) reason.sources
         → OfNamed e row (λ n. n.form ≡ sum_of_numbers e.parities reason.sources) → OfNamed e row (λ n. IsReasonClause c.trail kept n.form reason.parity reason.clause)
-        → (rows : List (List Literal)) (lits : List Literal) → lits ≡ reason.clause → rows ≡ reason.clause ∷ [] → IsClauseAgainst c rows kept lits
-    row_is_against None at reason written numbers sums clause rows lits are told_rows = record {
-      sourced = is_told_row rows lits reason.clause are told_rows;
+        → (rows : List (List Literal)) (lits : List Literal) (n : ℕ) → lits ≡ reason.clause → n ≡ first_row_id c.next → rows ≡ reason.clause ∷ [] → IsClauseAgainst c rows kept lits n
+    row_is_against None at reason written numbers sums clause rows lits n are id_is told_rows = record {
+      sourced = is_told_row rows lits reason.clause n are id_is told_rows;
       all_false = λ m h. (clause at.0 at.1).are_false m (ap (λ ls. has_literal ls m) (sym are) ∙ h);
     }
-    row_is_against (Some l) at reason written numbers sums clause rows lits are told_rows = (
-      is_told_row rows lits reason.clause are told_rows,
+    row_is_against (Some l) at reason written numbers sums clause rows lits n are id_is told_rows = (
+      is_told_row rows lits reason.clause n are id_is told_rows,
       subst (IsAntecedent c.trail l) (sym are) (reasons.is_antecedent c.trail e l row at reason written numbers sums clause st.3.trail.follows.sound),
     )
 
 pub found_concludes : (formula : Problem) (c : SearchState) (e : State) (told : Option (List LogEvent)) → SearchStands formula c e [] told → (what : Found) (r : ℕ) → what ≡ found.Clause r → PropagationFinds c e what
-    → (k : Conflict) → k.lits ≡ literals_at c.arena r → k.rows.items ≡ [] → IsId k.id → Concludes formula c e told None (Clause k)
-found_concludes formula c e told st what r is finds k are none is_id =
+    → (k : Conflict) → k.lits ≡ literals_at c.arena r → k.id ≡ id_at c.arena r → k.rows.items ≡ [] → IsId k.id → Concludes formula c e told None (Clause k)
+found_concludes formula c e told st what r is finds k are at none is_id =
     let f = subst (PropagationFinds c e) is finds in
-    stored_concludes formula c e told st r (st.4.fits.nodes.live r f.0) f.1 k are none is_id
+    stored_concludes formula c e told st r (st.4.fits.nodes.live r f.0) f.1 k are at none is_id

@@ -7,17 +7,19 @@ use Rattle.cx_base.specs.declared.steps.LogStep.TheVariants.{ClauseWithHints}
 use Rattle.cx_base.specs.declared.steps.LogEvent.{LogEvent}
 use Rattle.cx_base.specs.declared.steps.LogEvent.TheVariants.{Step}
 use Rattle.cx_semantics.specs.Chain.{negations}
-use Rattle.cx_semantics.specs.LogRules.{HasChain}
 use Rattle.cx_semantics.specs.Marked.{Marked}
 use Rattle.search_steps.specs.Trail.{Entry}
 use Rattle.cx_base.specs.Assumptions.{clashes, is_ending, IsFailed}
 use Rattle.cx_base.specs.Integers.{integers_of, literals}
+use Rattle.search_steps.specs.Hints.{AreHintsFor}
 use Rattle.search_steps.specs.LogSteps.{IsAddition}
 use Rattle.search_steps.specs.Search.{IsSearch}
-use Rattle.search_steps.proofs.Ends.{ended_is_unmet, chained_clause_ends, chained_clause_fails, chained_clause_is_marked, chained_clause_is_scheduled}
+use Rattle.search_steps.proofs.Ends.{ended_is_unmet, chained_clause_ends, chained_clause_fails, chained_clause_is_marked, chained_clause_is_scheduled, chained_clause_is_hinted}
 use Rattle.search_steps.specs.Search.{Search}
 use Rattle.search_steps.specs.Holding.{AreTold}
+use Rattle.cdcl_search.specs.declared.state.SearchState.{SearchState}
 use Rattle.cdcl_search.specs.Tells.{IsLeft, with_events}
+use Rattle.cdcl_search.specs.Units.{AreUnitsAnd}
 use Rattle.cdcl_core.specs.Concluding.{IsEndedWith, IsContradicted, IsRefutable}
 use Rattle.cdcl_core.specs.Results.{Refutes, IsEndedWithin, EndsFor}
 
@@ -29,7 +31,7 @@ no_newer (x ∷ newer) older es is long = absurd (let a = ap length is in let b 
 -- ---- steps that end the log
 within : (formula : Problem) (marks : ℕ) (failed : List Literal) (told : Option (List LogEvent)) → IsEndedWith formula marks failed told → IsEndedWithin formula (marks + 1) failed told
 within formula marks failed None e = tt
-within formula marks failed (Some events) e = (e.0, (marks, omega arith, e.1), e.2)
+within formula marks failed (Some events) e = (e.0, (marks, omega arith, e.1), e.2, e.3)
 
 pub ends_refute : (formula : Problem) (marks : ℕ) (failed : List Literal) (told : Option (List LogEvent)) → Unmet formula → IsFailed formula failed → clashes formula.constraints ≡ false → IsEndedWith formula marks failed told → Refutes formula (marks + 1) told failed
 ends_refute formula marks failed told unmet fails apart ends = record { unmet = unmet; fails = fails; clash = λ both. absurd (true≢false (sym both ∙ apart)); log = within formula marks failed told ends }
@@ -39,24 +41,24 @@ pub ended_is_left : (formula : Problem) (marks : ℕ) (failed : List Literal) (t
 ended_is_left formula marks failed None e = tt
 ended_is_left formula marks failed (Some events) e = inr e.0.ended
 
--- ---- a clause by a right chain that ends the log is told
+-- ---- a clause with right hints that ends the log is told
 module _ (formula : Problem) (parities : List (List Literal)) (s : Search) (ok : IsSearch formula parities s) (served : s.moment.awaits ≡ false) (marks : ℕ) (count : s.conflicts ≡ marks) (n : ℕ) (lits : List Literal) (hints : List ℤ)
-    (back : literals (integers_of lits) ≡ lits) (added : IsAddition formula s.moment.tables.clauses n (integers_of lits)) (chain : HasChain s.moment.tables.clauses lits) (ends : is_ending formula.constraints lits ≡ true) where
+    (back : literals (integers_of lits) ≡ lits) (added : IsAddition formula s.moment.tables.clauses n (integers_of lits)) (right : AreHintsFor s.moment.tables.clauses lits hints) (ends : is_ending formula.constraints lits ≡ true) where
   abbrev last : LogStep
   last = ClauseWithHints n (integers_of lits) hints
 
   ending_told : is_ending formula.constraints (literals (integers_of lits)) ≡ true
   ending_told = ap (is_ending formula.constraints) back ∙ ends
 
-  chain_told : HasChain s.moment.tables.clauses (literals (integers_of lits))
-  chain_told = subst (HasChain s.moment.tables.clauses) (sym back) chain
+  right_told : AreHintsFor s.moment.tables.clauses (literals (integers_of lits)) hints
+  right_told = subst (λ xs. AreHintsFor s.moment.tables.clauses xs hints) (sym back) right
 
   pub clause_fails : IsFailed formula (negations lits)
-  clause_fails = subst (λ ls. IsFailed formula (negations ls)) back (chained_clause_fails formula parities s ok n (integers_of lits) hints added chain_told ending_told)
+  clause_fails = subst (λ ls. IsFailed formula (negations ls)) back (chained_clause_fails formula parities s ok n (integers_of lits) hints added right_told ending_told)
 
   clause_ends : EndsFor formula (s.events ++ Step last ∷ []) (negations lits)
   clause_ends = record {
-    ended = chained_clause_ends formula parities s ok n (integers_of lits) hints added chain_told ending_told;
+    ended = chained_clause_ends formula parities s ok n (integers_of lits) hints added right_told ending_told;
     last = λ apart. (s.events, last, refl, ap negations (sym back));
   }
 
@@ -65,27 +67,27 @@ module _ (formula : Problem) (parities : List (List Literal)) (s : Search) (ok :
 
   pub clause_is_told : (o : Option (List LogEvent)) → AreTold o s.events → IsEndedWith formula marks (negations lits) (with_events (Step last ∷ []) o)
   clause_is_told None a = tt
-  clause_is_told (Some es) a = subst (λ xs. IsEndedWith formula marks (negations lits) (Some (xs ++ Step last ∷ []))) (sym a) (clause_ends, clause_is_marked, chained_clause_is_scheduled formula parities s ok n (integers_of lits) hints)
+  clause_is_told (Some es) a = subst (λ xs. IsEndedWith formula marks (negations lits) (Some (xs ++ Step last ∷ []))) (sym a) (clause_ends, clause_is_marked, chained_clause_is_scheduled formula parities s ok n (integers_of lits) hints, chained_clause_is_hinted formula parities s ok n (integers_of lits) hints right_told)
 
   pub clause_is_unmet : Unmet formula
   clause_is_unmet = ended_is_unmet formula (s.events ++ Step last ∷ []) clause_ends.ended
 
 -- ---- the empty clause is told
-module _ (formula : Problem) (id marks : ℕ) (old : Option (List LogEvent)) (shown : IsRefutable formula id marks old) (hints : List ℤ) where
+module _ (formula : Problem) (c : SearchState) (lits : List Literal) (n : ℕ) (old : Option (List LogEvent)) (shown : IsRefutable formula c lits n old) (hints : List ℤ) (are : AreUnitsAnd c lits n hints) where
   abbrev s_then : Search
   s_then = shown.1.0
 
-  abbrev k : IsContradicted formula id marks s_then
+  abbrev k : IsContradicted formula c lits n s_then
   k = shown.1.2
 
-  pub shown_ends : IsEndedWith formula marks [] (with_events (Step (ClauseWithHints id [] hints) ∷ []) old)
-  shown_ends = clause_is_told formula k.parities s_then k.search k.served marks k.conflicts id [] hints refl (record { within = refl; free = k.free }) k.chain refl old shown.1.1
+  pub shown_ends : IsEndedWith formula c.conflicts [] (with_events (Step (ClauseWithHints c.next [] hints) ∷ []) old)
+  shown_ends = clause_is_told formula k.parities s_then k.search k.served c.conflicts k.conflicts c.next [] hints refl (record { within = refl; free = k.free }) (k.hinted hints are) refl old shown.1.1
 
   pub shown_is_unmet : Unmet formula
-  shown_is_unmet = clause_is_unmet formula k.parities s_then k.search k.served marks k.conflicts id [] hints refl (record { within = refl; free = k.free }) k.chain refl
+  shown_is_unmet = clause_is_unmet formula k.parities s_then k.search k.served c.conflicts k.conflicts c.next [] hints refl (record { within = refl; free = k.free }) (k.hinted hints are) refl
 
   pub shown_fails : IsFailed formula []
-  shown_fails = clause_fails formula k.parities s_then k.search k.served marks k.conflicts id [] hints refl (record { within = refl; free = k.free }) k.chain refl
+  shown_fails = clause_fails formula k.parities s_then k.search k.served c.conflicts k.conflicts c.next [] hints refl (record { within = refl; free = k.free }) (k.hinted hints are) refl
 
   pub shown_is_apart : clashes formula.constraints ≡ false
   shown_is_apart = k.search.log.apart

@@ -1,5 +1,5 @@
 -- What is left of a clause whose literals rest on assumed ones.
-use Rattle.std.proofs.Common.{◌≡◌, refl, sym, ap, ◌∙◌, subst, ℕ, suc, ◌+◌, ℤ, ◌++◌, ◌<◌, ◌≤◌, nat_lt, true, false, ◌||◌, List, [], ◌∷◌, length, Option, Some, None, Result, Ok, Err, arith, true≢false}
+use Rattle.std.proofs.Common.{◌≡◌, refl, sym, ap, ◌∙◌, subst, ℕ, suc, ◌+◌, ℤ, pos, ◌++◌, ◌<◌, ◌≤◌, nat_lt, true, false, ◌||◌, List, [], ◌∷◌, length, Option, Some, None, Result, Ok, Err, arith, true≢false}
 use Rattle.std.proofs.lemmas.Bool.{ltb-true, ltb-false, and_from}
 use Rattle.std.specs.List.{list_any, AllByRecursion}
 use Rattle.std.specs.Prelude.{IfOk, IfSome, IsTrue}
@@ -17,36 +17,36 @@ use Rattle.cx_semantics.specs.Chain.{has_literal, negations}
 use Rattle.conflict_learn.specs.declared.fault.CoreFault.{CoreFault}
 use Rattle.conflict_learn.specs.declared.final_analysis.Final.{Final}
 use Rattle.conflict_learn.specs.Final.{IsFinal, IsDecidedAt, StandsBelow, kept_in}
-use Rattle.conflict_learn.specs.Learning.{literal_at, negated_at}
+use Rattle.conflict_learn.specs.Learning.{literal_at, literals_of, negated_at}
 use Rattle.cdcl_search.specs.declared.state.SearchState.{SearchState}
-use Rattle.cdcl_search.specs.Sources.{IsSourced, RowsAreApart}
+use Rattle.cdcl_search.specs.Sources.{IsSourcedBy, RowsAreApart}
 use Rattle.cdcl_core.specs.Failing.{IsFailure, IsFree, IsLeftOf, RestsOnAssumptions, EndsAtPlace}
 use Rattle.cx_base.specs.Problem.{Problem, Unmet, AreWithin}
 use Rattle.cx_base.specs.Integers.{integers_of, literals}
 use Rattle.cx_base.specs.declared.steps.LogStep.TheVariants.{ClauseWithHints}
 use Rattle.cx_base.specs.declared.steps.LogEvent.{LogEvent}
 use Rattle.cx_base.specs.declared.steps.LogEvent.TheVariants.{Step}
-use Rattle.cx_semantics.specs.LogRules.{HasChain}
 use Rattle.parity_engine.specs.State.{State}
+use Rattle.search_steps.specs.Hints.{AreHintsFor, hints_from}
 use Rattle.search_steps.specs.LogSteps.{IsAddition}
 use Rattle.search_steps.proofs.IdLaws.{next_is_free}
-use Rattle.search_steps.proofs.LearnedLaws.{followed_has_chain}
+use Rattle.search_steps.proofs.LearnedLaws.{followed_is_hinted}
 use Rattle.search_steps.proofs.StartLaws.{literals_are, variables_are_within}
 use Rattle.cdcl_search.specs.Tells.{with_events}
 use Rattle.cdcl_search.specs.Ties.{SearchStands, first_row_id}
-use Rattle.cdcl_search.proofs.SourceLaws.{sourced_is_live}
+use Rattle.cdcl_search.proofs.SourceLaws.{sourced_is_named}
 use Rattle.cdcl_core.specs.Concluding.{IsEndedWith, IsClauseAgainst}
 use Rattle.cdcl_core.proofs.EndingLaws.{clause_is_told, clause_is_unmet, clause_fails}
 
 -- it fails also where more rows are told
-pub fails_at : (constraints : List Constraint) (c : SearchState) (clause : List Literal) (kept : Option Literal) (below : ℕ) (rows more : List (List Literal)) → IsSourced c more clause → IsFailure constraints c clause kept below rows
-    → IsFailure constraints c clause kept below more
-fails_at constraints c clause kept below rows more sourced f = record { sourced = sourced; all_false = f.all_false; contradicts = f.contradicts; within = f.within; apart = f.apart; rests = f.rests }
+pub fails_at : (constraints : List Constraint) (c : SearchState) (clause : List Literal) (n : ℕ) (kept : Option Literal) (below : ℕ) (rows more : List (List Literal)) → IsSourcedBy c more clause n → IsFailure constraints c clause n kept below rows
+    → IsFailure constraints c clause n kept below more
+fails_at constraints c clause n kept below rows more sourced f = record { sourced = sourced; all_false = f.all_false; contradicts = f.contradicts; within = f.within; apart = f.apart; rests = f.rests }
 
-pub is_left : (r : Result Final CoreFault) (constraints : List Constraint) (c : SearchState) (clause : List Literal) (kept : Option Literal) (below : ℕ) (rows : List (List Literal)) → IsFailure constraints c clause kept below rows
-    → IfOk r (λ x. IsFinal c.trail below kept clause (IsSourced c rows) x.resolved x.lits) → IfOk r (λ x. (l : Literal) → IsTrue (has_literal x.resolved l) → StandsBelow c.trail below l) → IfOk r (IsLeftOf constraints c clause kept below rows)
-is_left (Ok x) constraints c clause kept below rows fails final stand = record { fails = fails; final = final; stand = stand }
-is_left (Err fault) constraints c clause kept below rows fails final stand = tt
+pub is_left : (r : Result Final CoreFault) (constraints : List Constraint) (c : SearchState) (clause : List Literal) (n : ℕ) (kept : Option Literal) (below : ℕ) (rows : List (List Literal)) → IsFailure constraints c clause n kept below rows
+    → IfOk r (λ x. IsFinal c.trail below kept clause (IsSourcedBy c rows) x.resolved.items x.lits) → IfOk r (λ x. (l : Literal) → IsTrue (has_literal (literals_of x.resolved.items) l) → StandsBelow c.trail below l) → IfOk r (IsLeftOf constraints c clause n kept below rows)
+is_left (Ok x) constraints c clause n kept below rows fails final stand = record { fails = fails; final = final; stand = stand }
+is_left (Err fault) constraints c clause n kept below rows fails final stand = tt
 
 -- above the levels whose decisions are assumed no literal of the current level is
 pub above_is_free : (constraints : List Constraint) (a : Assumptions) (t : TrailState) → KeepsAssumptions constraints a t → IsTrail t → a.level < t.level → IsFree constraints t
@@ -72,9 +72,9 @@ above_is_free constraints a t k ok higher p less level = by_cases (assumes const
         (λ e. let r = member_at lits l (sym (ap (λ b. b || list_any (same_literal l) lits) e) ∙ g) in (suc r.0, let low = r.1 in omega (arith, low), r.2))
 
 -- the clause of a conflict, or the one that implied a literal that contradicts an assumed one, fails
-pub fails_by : (constraints : List Constraint) (c : SearchState) (clause : List Literal) (kept : Option Literal) (below : ℕ) (rows : List (List Literal)) → IsClauseAgainst c rows kept clause → EndsAtPlace constraints c.trail kept below
-    → IsFailure constraints c clause kept below rows
-fails_by constraints c clause None below rows h p = record {
+pub fails_by : (constraints : List Constraint) (c : SearchState) (clause : List Literal) (n : ℕ) (kept : Option Literal) (below : ℕ) (rows : List (List Literal)) → IsClauseAgainst c rows kept clause n → EndsAtPlace constraints c.trail kept below
+    → IsFailure constraints c clause n kept below rows
+fails_by constraints c clause n None below rows h p = record {
   sourced = h.sourced;
   all_false = λ m has apart. let f = h.all_false m has in (f.0, (let less = f.1.0 in let all = p.all refl in omega (arith, less, all)), f.1.1);
   contradicts = tt;
@@ -82,7 +82,7 @@ fails_by constraints c clause None below rows h p = record {
   apart = p.apart;
   rests = p.rests;
 }
-fails_by constraints c clause (Some l) below rows h p = record {
+fails_by constraints c clause n (Some l) below rows h p = record {
   sourced = h.0;
   all_false = λ m has other. (h.1 below p.stands.0.0 p.stands.0.1).others_false m has (ap (λ x. same_literal x m) p.stands.0.1 ∙ other);
   contradicts = ((below, p.stands.0), p.stands.1);
@@ -135,9 +135,9 @@ none_decided : (t : TrailState) → IsTrail t → t.level ≡ 0 → (places : Li
 none_decided t ok zero [] below few w d = refl
 none_decided t ok zero (p ∷ places) below few w d = absurd (let low = w.0 in let top = ok.levels p (omega (arith, low, few)) in let above = d.0.0 in omega (arith, top, above, zero))
 
-pub none_left : (constraints : List Constraint) (c : SearchState) (clause : List Literal) (kept : Option Literal) (below : ℕ) (rows : List (List Literal)) (left : Final) → IsLeftOf constraints c clause kept below rows left → IsTrail c.trail
+pub none_left : (constraints : List Constraint) (c : SearchState) (clause : List Literal) (n : ℕ) (kept : Option Literal) (below : ℕ) (rows : List (List Literal)) (left : Final) → IsLeftOf constraints c clause n kept below rows left → IsTrail c.trail
     → kept ≡ None → c.trail.level ≡ 0 → negations left.lits ≡ []
-none_left constraints c clause kept below rows left l ok none zero = ap negations (l.final.are ∙ ap (λ k. kept_in k ++ negated_at c.trail l.final.places) none
+none_left constraints c clause n kept below rows left l ok none zero = ap negations (l.final.are ∙ ap (λ k. kept_in k ++ negated_at c.trail l.final.places) none
     ∙ ap (negated_at c.trail) (none_decided c.trail ok zero l.final.places below l.fails.within l.final.within l.final.decided))
 
 -- ---- what is left ends the log
@@ -168,7 +168,7 @@ module _ (formula : Problem) (t : TrailState) (same : t.variables ≡ formula.va
   )
 
 module _ (formula : Problem) (c : SearchState) (e : State) (rows : List (List Literal)) (old : Option (List LogEvent)) (st : SearchStands formula c e rows old)
-    (clause : List Literal) (kept : Option Literal) (below : ℕ) (left : Final) (l : IsLeftOf formula.constraints c clause kept below rows left) (hints : List ℤ) where
+    (clause : List Literal) (n : ℕ) (kept : Option Literal) (below : ℕ) (left : Final) (l : IsLeftOf formula.constraints c clause n kept below rows left) (hints : List ℤ) (hinted : hints ≡ hints_from left.resolved.items ++ pos n ∷ []) where
   within : AreWithin formula.variables left.lits
   within = subst (AreWithin formula.variables) (sym l.final.are) (all_within formula c.trail st.3.trail.variables st.3.trail.follows.sound formula.constraints kept l.fails.contradicts l.final.places below l.fails.within l.final.within)
 
@@ -178,17 +178,20 @@ module _ (formula : Problem) (c : SearchState) (e : State) (rows : List (List Li
   ends : is_ending formula.constraints left.lits ≡ true
   ends = ap (is_ending formula.constraints) l.final.are ∙ all_end formula.constraints c.trail below l.fails.rests kept l.fails.contradicts l.final.places l.final.within l.final.decided
 
-  chain : HasChain st.0.moment.tables.clauses left.lits
-  chain = let live = sourced_is_live formula c e rows st.0 st.3 in followed_has_chain st.0.moment.tables.clauses c.trail clause (IsSourced c rows) left.resolved left.lits (live clause l.fails.sourced) live l.final.follows
+  right : AreHintsFor st.0.moment.tables.clauses left.lits hints
+  right =
+      let named = sourced_is_named formula c e rows st.0 st.3 in
+      subst (AreHintsFor st.0.moment.tables.clauses left.lits) (sym hinted)
+      (followed_is_hinted st.0.moment.tables.clauses c.trail (IsSourcedBy c rows) named clause n (named clause n l.fails.sourced) left.resolved.items left.lits l.final.follows)
 
   added : IsAddition formula st.0.moment.tables.clauses c.next (integers_of left.lits)
   added = record { within = variables_are_within formula.variables left.lits within; free = next_is_free formula (first_row_id c.next) c.next (first_row_id c.next + length rows) st.0 st.3.log.ranged (omega arith) }
 
   pub left_is_told : IsEndedWith formula c.conflicts (negations left.lits) (with_events (Step (ClauseWithHints c.next (integers_of left.lits) hints) ∷ []) old)
-  left_is_told = clause_is_told formula e.parities st.0 st.1 st.3.log.served.served c.conflicts st.3.counts.marked c.next left.lits hints back added chain ends old st.2
+  left_is_told = clause_is_told formula e.parities st.0 st.1 st.3.log.served.served c.conflicts st.3.counts.marked c.next left.lits hints back added right ends old st.2
 
   pub left_is_unmet : Unmet formula
-  left_is_unmet = clause_is_unmet formula e.parities st.0 st.1 st.3.log.served.served c.conflicts st.3.counts.marked c.next left.lits hints back added chain ends
+  left_is_unmet = clause_is_unmet formula e.parities st.0 st.1 st.3.log.served.served c.conflicts st.3.counts.marked c.next left.lits hints back added right ends
 
   pub left_fails : IsFailed formula (negations left.lits)
-  left_fails = clause_fails formula e.parities st.0 st.1 st.3.log.served.served c.conflicts st.3.counts.marked c.next left.lits hints back added chain ends
+  left_fails = clause_fails formula e.parities st.0 st.1 st.3.log.served.served c.conflicts st.3.counts.marked c.next left.lits hints back added right ends

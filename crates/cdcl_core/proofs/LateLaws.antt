@@ -19,6 +19,7 @@ use Rattle.cx_semantics.specs.Tables.{Table, get}
 use Rattle.cx_semantics.proofs.Closure.{inside_itself}
 use Rattle.cx_semantics.proofs.Members.{has_at_head, has_behind}
 use Rattle.cx_trail.specs.Sequence.{TrailState, IsTrail, IsFalseIn}
+use Rattle.conflict_learn.specs.declared.learning.Resolved.{Resolved}
 use Rattle.conflict_learn.specs.Final.{IsFinal, IsDecidedAt}
 use Rattle.conflict_learn.specs.Learning.{Follows, negated_at}
 use Rattle.conflict_learn.proofs.ChainOfResolutions.{by_cases}
@@ -26,10 +27,10 @@ use Rattle.parity_engine.specs.State.{State}
 use Rattle.parity_engine.specs.Equations.{numbered}
 use Rattle.xor_reason.specs.declared.reason.ReasonOf.{ReasonOf}
 use Rattle.cx_semantics.specs.Marked.{Moment}
+use Rattle.search_steps.specs.Hints.{IsNamedBy, hints_from}
 use Rattle.search_steps.specs.Ids.{AreRowIds, IsRanged}
 use Rattle.search_steps.specs.LogSteps.{all_told}
 use Rattle.search_steps.specs.Search.{Search, IsSearch, told}
-use Rattle.search_steps.specs.Tied.{IsLiveSet}
 use Rattle.search_steps.specs.Trail.{Entry, held}
 use Rattle.search_steps.proofs.Bridge.{to_held}
 use Rattle.search_steps.proofs.IdLaws.{row_next_is_free}
@@ -37,13 +38,13 @@ use Rattle.search_steps.proofs.LateUnits.{late_unit_keeps}
 use Rattle.search_steps.proofs.StartLaws.{literals_are, variables_are_within}
 use Rattle.cdcl_search.specs.declared.state.SearchState.{SearchState}
 use Rattle.cdcl_search.specs.Explaining.{Explains}
-use Rattle.cdcl_search.specs.Sources.{IsSourced}
+use Rattle.cdcl_search.specs.Sources.{IsSourcedBy}
 use Rattle.cdcl_search.specs.Tells.{as_events, with_events}
 use Rattle.cdcl_search.specs.Ties.{SearchStands, first_row_id}
 use Rattle.cdcl_search.proofs.EndingClauses.{ending_assumes}
 use Rattle.cdcl_search.proofs.Events.{more_and_more}
 use Rattle.cdcl_search.proofs.RowSteps.{all_told_are, clause_within}
-use Rattle.cdcl_search.proofs.TableLaws.{no_clause, put_same, put_other}
+use Rattle.cdcl_search.proofs.TableLaws.{named_stays, no_clause, put_same, put_other}
 use Rattle.cdcl_core.specs.Concluding.{EndsLog, IsEndedWith}
 use Rattle.cdcl_core.specs.Shortening.{ArePartedInto, IsToldUnit, EndsByUnits, late_unit_events, late_units_from, short_row_events}
 use Rattle.cdcl_core.specs.declared.conflicts.LogEnd.{LogEnd}
@@ -58,7 +59,7 @@ none_decided : (t : TrailState) → IsTrail t → t.level ≡ 0 → (places : Li
 none_decided t ok level [] w d = refl
 none_decided t ok level (p ∷ places) w d = let above = d.0.0 in let top = ok.levels p w.0 in absurd (omega (arith, above, top, level))
 
-pub follows_nothing : (t : TrailState) → IsTrail t → t.level ≡ 0 → (clause : List Literal) (holds : List Literal → Type 0) (resolved lits : List Literal) → IsFinal t (length t.entries) None clause holds resolved lits → Follows t clause holds resolved []
+pub follows_nothing : (t : TrailState) → IsTrail t → t.level ≡ 0 → (clause : List Literal) (holds : List Literal → ℕ → Type 0) (resolved : List Resolved) (lits : List Literal) → IsFinal t (length t.entries) None clause holds resolved lits → Follows t clause holds resolved []
 follows_nothing t ok level clause holds resolved lits f = subst (Follows t clause holds resolved) (f.are ∙ none_decided t ok level f.places f.within f.decided) f.follows
 
 -- ---- unit clauses of literals that have none yet
@@ -79,11 +80,10 @@ pub record AreLateTold (formula : Problem) (parities : List (List Literal)) (old
   pub served : new.moment.awaits ≡ false
   pub conflicts : new.conflicts ≡ old.conflicts
 
-still_live : (table : Table) (n : ℕ) (lits : List Literal) → get table n ≡ None → (c : List Literal) → IsLiveSet table c → IsLiveSet (map_.insert table n lits) c
-still_live table n lits none c ((clause, (m, e), same)) =
-    (clause, (m, put_other table n m lits (λ is. no_clause clause (sym e ∙ ap (get table) is ∙ none)) ∙ e), same)
+still_named : (table : Table) (n : ℕ) (lits : List Literal) → get table n ≡ None → (c : List Literal) (m : ℕ) → IsNamedBy table c m → IsNamedBy (map_.insert table n lits) c m
+still_named table n lits none c m by = named_stays table (map_.insert table n lits) c m (put_other table n m lits (λ is. no_clause by.clause (sym by.live ∙ ap (get table) is ∙ none))) by
 
-module _ (formula : Problem) (parities : List (List Literal)) (hints : List ℤ) (trail : TrailState) (clause : List Literal) (holds : List Literal → Type 0) (resolved : List Literal) (f : Follows trail clause holds resolved []) where
+module _ (formula : Problem) (parities : List (List Literal)) (hints : List ℤ) (trail : TrailState) (clause : List Literal) (holds : List Literal → ℕ → Type 0) (resolved : List Resolved) (f : Follows trail clause holds resolved []) (hinted : hints ≡ hints_from resolved) where
   module _ (l : Literal) (n : ℕ) (s : Search) (is : IsLate formula s.trail clause l) (free : (m : ℕ) → n ≤ m → get s.moment.tables.clauses m ≡ None) where
     abbrev z : ℤ
     z = integer_of (negate l)
@@ -100,11 +100,11 @@ module _ (formula : Problem) (parities : List (List Literal)) (hints : List ℤ)
     abbrev after : Search
     after = told s (Step (ClauseWithHints n (z ∷ []) hints))
 
-    late_next : IsSearch formula parities s → ((c : List Literal) → holds c → IsLiveSet s.moment.tables.clauses c) → s.moment.awaits ≡ false → IsSearch formula parities after
+    late_next : IsSearch formula parities s → ((c : List Literal) (k : ℕ) → holds c k → IsNamedBy s.moment.tables.clauses c k) → s.moment.awaits ≡ false → IsSearch formula parities after
     late_next ok live served = late_unit_keeps formula parities s ok n z hints (record { within = variables_are_within formula.variables (negate l ∷ []) within; free = free n (omega arith) })
         (ap (λ x. assumes formula.constraints (negate x) && true) one ∙ ap (λ x. assumes formula.constraints x && true) (negate-negate l) ∙ ap (λ b. b && true) is.apart)
         served (ap (has_literal (held 0 s.trail)) one ∙ is.false_now) trail clause holds resolved live f
-        (ap (λ x. has_literal clause (negate x)) one ∙ ap (has_literal clause) (negate-negate l) ∙ is.has)
+        (ap (λ x. has_literal clause (negate x)) one ∙ ap (has_literal clause) (negate-negate l) ∙ is.has) hinted
 
     late_more : (lits : List Literal) → AreLateTold formula parities after (all_told after (late_unit_events hints (late_units_from (n + 1) lits))) (n + 1) (late_units_from (n + 1) lits)
         → AreLateTold formula parities s (all_told s (late_unit_events hints (late_units_from n (l ∷ lits)))) n (late_units_from n (l ∷ lits))
@@ -128,7 +128,7 @@ module _ (formula : Problem) (parities : List (List Literal)) (hints : List ℤ)
       conflicts = rest.conflicts;
     }
 
-  pub late_told : (lits : List Literal) (n : ℕ) (s : Search) → IsSearch formula parities s → ((c : List Literal) → holds c → IsLiveSet s.moment.tables.clauses c) → ((m : ℕ) → n ≤ m → get s.moment.tables.clauses m ≡ None) → s.moment.awaits ≡ false
+  pub late_told : (lits : List Literal) (n : ℕ) (s : Search) → IsSearch formula parities s → ((c : List Literal) (k : ℕ) → holds c k → IsNamedBy s.moment.tables.clauses c k) → ((m : ℕ) → n ≤ m → get s.moment.tables.clauses m ≡ None) → s.moment.awaits ≡ false
       → AllByRecursion (IsLate formula s.trail clause) lits → AreLateTold formula parities s (all_told s (late_unit_events hints (late_units_from n lits))) n (late_units_from n lits)
   late_told [] n s ok live free served are = record {
     search = ok;
@@ -141,7 +141,7 @@ module _ (formula : Problem) (parities : List (List Literal)) (hints : List ℤ)
   }
   late_told (l ∷ lits) n s ok live free served are = late_more l n s are.0 free lits
       (late_told lits (n + 1) (told s (Step (ClauseWithHints n (integer_of (negate l) ∷ []) hints))) (late_next l n s are.0 free ok live served)
-      (λ c h. still_live s.moment.tables.clauses n (literals (integer_of (negate l) ∷ [])) (free n (omega arith)) c (live c h))
+      (λ c k h. still_named s.moment.tables.clauses n (literals (integer_of (negate l) ∷ [])) (free n (omega arith)) c k (live c k h))
       (λ m high. put_other s.moment.tables.clauses n m (literals (integer_of (negate l) ∷ [])) (λ same. omega (arith, same, high)) ∙ free m (omega (arith, high))) refl are.1)
 
 -- ---- ids after those of rows are free
@@ -168,8 +168,8 @@ late_parts (l ∷ lits) n = inr (record { literal = negate l; id = n }, late_uni
 
 module _ (formula : Problem) (c : SearchState) (e : State) (rows : List (List Literal)) (told_ : Option (List LogEvent)) (st : SearchStands formula c e rows told_) (r : ReasonOf) (x : Explains e.parities c.trail r)
     (false_now : (m : Literal) → has_literal r.clause m ≡ true → IsFalseIn c.trail.entries m) (ends : is_ending formula.constraints r.clause ≡ true) (level : c.trail.level ≡ 0)
-    (resolved : List Literal) (f : Follows c.trail r.clause (IsSourced c rows) resolved []) (live : (clause : List Literal) → IsSourced c rows clause → IsLiveSet st.0.moment.tables.clauses clause) (n : LogEnd)
-    (by : EndsByUnits c (length formula.constraints) (length rows) r n) where
+    (resolved : List Resolved) (f : Follows c.trail r.clause (IsSourcedBy c rows) resolved []) (live : (clause : List Literal) (i : ℕ) → IsSourcedBy c rows clause i → IsNamedBy st.0.moment.tables.clauses clause i)
+    (hints : List ℤ) (hinted : hints ≡ hints_from resolved) (n : LogEnd) (by : EndsByUnits c (length formula.constraints) (length rows) r hints n) where
   abbrev s : Search
   s = st.0
 
@@ -189,7 +189,7 @@ module _ (formula : Problem) (c : SearchState) (e : State) (rows : List (List Li
   k = length formula.constraints + 1
 
   abbrev s1 : Search
-  s1 = all_told s (late_unit_events by.hints late)
+  s1 = all_told s (late_unit_events hints late)
 
   is_late : (l : Literal) → has_literal r.clause l ≡ true → (1 ≤ l.variable) × (l.variable ≤ formula.variables) → IsLate formula s.trail r.clause l
   is_late l has within = record {
@@ -212,7 +212,7 @@ module _ (formula : Problem) (c : SearchState) (e : State) (rows : List (List Li
   left_within = left_all (λ l. (1 ≤ l.variable) × (l.variable ≤ formula.variables)) r.clause left units by.shortened.parts (clause_within formula c e rows s st.3 r x)
 
   told_late : AreLateTold formula e.parities s s1 first late
-  told_late = late_told formula e.parities by.hints c.trail r.clause (IsSourced c rows) resolved f left first s st.1 live
+  told_late = late_told formula e.parities hints c.trail r.clause (IsSourcedBy c rows) resolved f hinted left first s st.1 live
       (λ m high. row_next_is_free formula (first_row_id c.next) c.next m s (ranged_up formula (first_row_id c.next) c.next first m s.trail s.moment high st.3.log.ranged) (omega (arith, high)))
       st.3.log.served.served (are_late left (left_inside r.clause left units by.shortened.parts) left_within)
 
@@ -270,9 +270,9 @@ module _ (formula : Problem) (c : SearchState) (e : State) (rows : List (List Li
     fails = left_fails formula e.parities c.conflicts k (first + length left) s1 ready r.sources (units ++ late) [] of_row all_units;
     apart = st.1.log.apart;
     log = subst (λ xs. IsEndedWith formula c.conflicts [] (with_events xs told_)) (sym steps_are)
-        (subst (IsEndedWith formula c.conflicts []) (more_and_more (late_unit_events by.hints late) (short_row_events k r.sources (units ++ late) [] (first + length left)) told_)
-        (left_ends formula e.parities c.conflicts k (first + length left) s1 ready r.sources (units ++ late) [] of_row all_units (with_events (late_unit_events by.hints late) told_) (all_told_are (late_unit_events by.hints late) s told_ st.2)));
+        (subst (IsEndedWith formula c.conflicts []) (more_and_more (late_unit_events hints late) (short_row_events k r.sources (units ++ late) [] (first + length left)) told_)
+        (left_ends formula e.parities c.conflicts k (first + length left) s1 ready r.sources (units ++ late) [] of_row all_units (with_events (late_unit_events hints late) told_) (all_told_are (late_unit_events hints late) s told_ st.2)));
   })
     where
-      steps_are : as_events n.steps.items ≡ late_unit_events by.hints late ++ short_row_events k r.sources (units ++ late) [] (first + length left)
-      steps_are = by.ends.steps.are ∙ (λ i. late_unit_events by.hints late ++ short_row_events k r.sources (by.units i) (by.nothing i) (first + length left))
+      steps_are : as_events n.steps.items ≡ late_unit_events hints late ++ short_row_events k r.sources (units ++ late) [] (first + length left)
+      steps_are = by.ends.steps.are ∙ (λ i. late_unit_events hints late ++ short_row_events k r.sources (by.units i) (by.nothing i) (first + length left))

@@ -69,11 +69,10 @@ module _ (first i : ℕ) (lits : List Literal) (l : Literal) (less : i < length 
 -- the last steps after these unit clauses
 pub ends_by_units : (r : Result LogEnd AllocError) (c : SearchState) (constraints rows : ℕ) (reason : ReasonOf) (short : Shortened) → IsShortened c reason.clause short → (hints : List ℤ) (last : Shortened)
     → last.units.items ≡ short.units.items ++ late_units_from (first_row_id c.next + rows) short.left → last.left ≡ [] → (id : ℕ) → id ≡ first_row_id c.next + rows + length short.left
-    → (before : List LogEvent) → before ≡ late_unit_events hints (late_units_from (first_row_id c.next + rows) short.left) → IfOk r (EndsBy constraints id reason.sources last before) → IfOk r (EndsByUnits c constraints rows reason)
+    → (before : List LogEvent) → before ≡ late_unit_events hints (late_units_from (first_row_id c.next + rows) short.left) → IfOk r (EndsBy constraints id reason.sources last before) → IfOk r (EndsByUnits c constraints rows reason hints)
 ends_by_units (Ok e) c constraints rows reason short shortened hints last units nothing id number before are h = record {
   short = short;
   shortened = shortened;
-  hints = hints;
   last = last;
   units = units;
   nothing = nothing;

@@ -3,6 +3,7 @@ pub mod Entering
 pub mod Entered
 pub mod EnteredCases
 pub mod JumpLaws
+pub mod HintIds
 pub mod LearnLaws
 pub mod FailLaws
 pub mod RefutedLaws

@@ -34,7 +34,7 @@ use Rattle.search_steps.specs.Holding.{AreTold}
 use Rattle.search_steps.specs.Ids.{HasFreeSums}
 use Rattle.search_steps.specs.LogSteps.{IsAddition, IsClauseOfRow, IsEnded, all_told}
 use Rattle.search_steps.specs.Search.{Search, IsSearch, told}
-use Rattle.search_steps.proofs.Ends.{row_clause_ends, row_clause_fails, row_clause_is_marked, ended_is_unmet, row_clause_is_scheduled}
+use Rattle.search_steps.proofs.Ends.{row_clause_ends, row_clause_fails, row_clause_is_marked, ended_is_unmet, row_clause_is_scheduled, row_clause_is_hinted}
 use Rattle.search_steps.proofs.IdLaws.{row_next_is_free}
 use Rattle.search_steps.proofs.LogLaws.{live_sum_keeps}
 use Rattle.search_steps.proofs.StartLaws.{literals_are, variables_are_within}
@@ -310,7 +310,7 @@ module _ (formula : Problem) (theirs : List (List Literal)) (marks k n : ℕ) (s
   pub left_ends : (told_ : Option (List LogEvent)) → AreTold told_ s.events → IsEndedWith formula marks (negations left) (with_events (short_row_events k sources units left n) told_)
   left_ends None a = tt
   left_ends (Some es) a = subst (λ xs. IsEndedWith formula marks (negations left) (Some xs))
-      (ap (λ (x : Search). x.events) (sym (told_then (unit_parity_events k units) both s)) ∙ sym (all_told_are (short_row_events k sources units left n) s (Some es) a)) (end_for, is_marked, row_clause_is_scheduled formula theirs s2 s2_is n zs (k + length units))
+      (ap (λ (x : Search). x.events) (sym (told_then (unit_parity_events k units) both s)) ∙ sym (all_told_are (short_row_events k sources units left n) s (Some es) a)) (end_for, is_marked, row_clause_is_scheduled formula theirs s2 s2_is n zs (k + length units), row_clause_is_hinted formula theirs s2 s2_is n zs (k + length units))
 
 -- ---- how many literals a row has
 rising_distinct : (least : ℕ) (vs : List ℕ) → Rises least vs → Distinct vs

@@ -1,5 +1,5 @@
 -- Unit clauses of the formula come onto the trail, one after another, and what holds when none waits.
-use Rattle.std.proofs.Common.{◌≡◌, ◌≢◌, refl, sym, ap, ◌∙◌, subst, ℕ, zero, suc, ◌+◌, ◌<◌, ◌≤◌, nat_lt, true, cond, List, [], ◌∷◌, ◌++◌, length, drop, drop-cons, get_or, Option, Some, None, ◌⊎◌, inl, inr, Contains, arith, length-append, true≢false, append-nil}
+use Rattle.std.proofs.Common.{◌≡◌, ◌≢◌, refl, sym, ap, ◌∙◌, subst, ℕ, zero, suc, ◌+◌, ◌<◌, ◌≤◌, nat_lt, true, cond, List, [], ◌∷◌, ◌++◌, length, drop, drop-cons, get_or, Option, Some, None, ◌⊎◌, inl, inr, arith, length-append, true≢false, append-nil}
 use Rattle.std.proofs.lemmas.Bool.{le-leb, ltb-true, ltb-false, and_parts}
 use Rattle.std.proofs.lemmas.List.{length-replicate, length_push}
 use Rattle.std.proofs.Math.ListN.{get_or-append}
@@ -8,7 +8,7 @@ use Rattle.std.specs.List.{All, AllByRecursion}
 use Rattle.std.specs.Prelude.{if◌then◌else◌}
 use Rattle.std.specs.Global.{Vec}
 use Rattle.std.proofs.lemmas.Option.{same_Some}
-use Rattle.cx_base.specs.Literals.{Literal, same_literal}
+use Rattle.cx_base.specs.Literals.{Literal, negate, same_literal}
 use Rattle.cx_base.specs.Problem.{Problem, clauses_of, IsWithinVariables}
 use Rattle.cx_base.specs.declared.steps.LogEvent.{LogEvent}
 use Rattle.cx_semantics.specs.Chain.{has_literal, is_inside, same_literals}
@@ -18,14 +18,14 @@ use Rattle.cx_semantics.proofs.Closure.{has_by_inside}
 use Rattle.cx_semantics.proofs.Members.{has_at_head, has_split}
 use Rattle.cx_trail.specs.declared.entry.Entry.{Entry as TrailEntry}
 use Rattle.cx_trail.specs.declared.entry.Reason.{Reason}
-use Rattle.cx_trail.specs.Sequence.{TrailState, IsTrail, IsTrueIn, IsFalseIn, IsOpenIn, entry_at, pushed}
+use Rattle.cx_trail.specs.Sequence.{TrailState, IsTrail, IsTrueIn, IsFalseIn, IsOpenIn, StandsAt, entry_at, pushed}
 use Rattle.parity_engine.specs.declared.state.Mood.TheVariants.{Busy, Broken}
 use Rattle.parity_engine.specs.State.{State, fresh}
 use Rattle.clause_arena.specs.Clauses.{id_at}
 use Rattle.search_steps.specs.Engine.{HoldsValues}
 use Rattle.cx_semantics.specs.Ids.{highest_id}
 use Rattle.search_steps.specs.Ids.{IsRanged, ReasonsBelow, AreRowIds}
-use Rattle.search_steps.specs.Quiet.{HasTrue, IsOfParities}
+use Rattle.search_steps.specs.Quiet.{HasTrue}
 use Rattle.search_steps.specs.Search.{Search, IsSearch, forced_on}
 use Rattle.search_steps.specs.Tied.{IsTied, ForcesOn}
 use Rattle.search_steps.specs.Trail.{Entry, by_clause, held, level_of}
@@ -33,14 +33,13 @@ use Rattle.search_steps.proofs.Bridge.{entry_last, entry_before, to_held, level_
 use Rattle.search_steps.proofs.CodeSteps.{clause_step_keeps}
 use Rattle.search_steps.proofs.EngineLaws.{fresh_holds}
 use Rattle.search_steps.proofs.IdLaws.{force_ranged, next_is_free}
-use Rattle.search_steps.proofs.LogLaws.{falsified_has_chain}
 use Rattle.conflict_learn.proofs.ChainOfResolutions.{by_cases}
 use Rattle.search_steps.proofs.Sets.{not_both}
-use Rattle.search_steps.proofs.Stored.{stored_is_false}
 use Rattle.cdcl_search.specs.declared.state.SearchState.{SearchState}
 use Rattle.cdcl_search.specs.Ties.{SearchStands, LogTies, ClauseTies, IsHeld, AreUnits, RestOnUnits, IsFallingFrom, IsFed, IsNamedBy, first_row_id}
 use Rattle.cdcl_search.proofs.Growing.{held_grows, watched_grows, stand_grows}
-use Rattle.cdcl_search.proofs.UnitTies.{on_clauses, on_last}
+use Rattle.cdcl_search.proofs.UnitHints.{unit_hints_are_right}
+use Rattle.cdcl_search.proofs.UnitTies.{on_last}
 use Rattle.search_steps.specs.Laws.{HaveTheirs}
 use Rattle.cdcl_search.proofs.Places.{tied_length}
 use Rattle.cdcl_search.proofs.TableLaws.{no_clause}
@@ -69,10 +68,6 @@ one_forces entries lits l same = record {
   has_it = has_the_one lits l same;
   others_false = λ m has apart. not_both (same_literal l m) (ap (same_literal l) (only_one lits l m same has) ∙ same_literal-itself l) apart;
 }
-
-one_is_false : (entries : List TrailEntry) (l : Literal) → IsFalseIn entries l → (m : Literal) → Contains (l ∷ []) m → IsFalseIn entries m
-one_is_false entries l h m (zero, less, is) = subst (IsFalseIn entries) is h
-one_is_false entries l h m (suc k, less, is) = absurd (omega (arith, less))
 
 -- the next one, or one of the others
 still_waits : (u : Single) (more : List Single) (k : ℕ) → IsWaiting (u ∷ more) k → (k ≡ u.number) ⊎ IsWaiting more k
@@ -219,7 +214,7 @@ module _ (formula : Problem) (engines : List (List Literal)) (c : SearchState) (
   )
 
   -- its literal is false
-  pub false_is_refutable : IsFalseIn c.trail.entries u.literal → IsRefutable formula c.next c.conflicts old
+  pub false_is_refutable : IsFalseIn c.trail.entries u.literal → IsRefutable formula c (u.literal ∷ []) u.number old
   false_is_refutable h = (
     (let next = ties.next in omega (arith, next), let room = ties.room in omega (arith, room)),
     (
@@ -228,8 +223,11 @@ module _ (formula : Problem) (engines : List (List Literal)) (c : SearchState) (
       record {
         parities = engines;
         search = st.1;
-        chain = falsified_has_chain search.moment.tables.clauses (IsOfParities formula.variables engines) search.trail st.1.serves.stands (on_clauses c.units.items search.trail rest) clause (u.number, live)
-            (stored_is_false (u.literal ∷ []) clause single.0.same search.trail c.trail.entries ties.follows.tied (one_is_false c.trail.entries u.literal h));
+        hinted = λ hints are. unit_hints_are_right search.moment.tables.clauses c.next c search.trail ties.units (u.literal ∷ []) u.number hints (record { clause = clause; live = live; same = single.0.same }) are []
+            (λ m has. elim (has_split u.literal [] m has) [
+              | inl e ↦ inr (h.0, (let less = h.1.0 in let every = ties.every in omega (arith, less, every)), subst (λ x. StandsAt c.trail.entries (negate x) h.0) (sym e) h.1)
+              | inr none ↦ absurd (true≢false (sym none))
+            ]);
         free = next_is_free formula (first_row_id c.next) c.next (first_row_id c.next) search ties.ranged (omega arith);
         served = ties.served.served;
         conflicts = ties.no_conflict ∙ sym ties.conflicts;
@@ -406,7 +404,7 @@ module _ (formula : Problem) (few : length formula.constraints ≤ 4294967295) (
   )
 
   -- a clause without literals
-  pub empty_is_refutable : (number : ℕ) → IsFilled formula c units (Some number) → IsRefutable formula c.next c.conflicts told
+  pub empty_is_refutable : (number : ℕ) → IsFilled formula c units (Some number) → IsRefutable formula c [] number told
   empty_is_refutable number f = (
     (let next = f.next in omega (arith, next), let r = room_then in let next = f.next in omega (arith, next, r)),
     (
@@ -415,7 +413,8 @@ module _ (formula : Problem) (few : length formula.constraints ≤ 4294967295) (
       record {
         parities = engines;
         search = b.1.search;
-        chain = falsified_has_chain b.0.moment.tables.clauses (IsOfParities formula.variables engines) [] tt tt [] (number, b.1.clauses.numbered number f.empty_is.0 f.empty_is.1 ∙ ap Some f.empty_is.2) refl;
+        hinted = λ hints are. unit_hints_are_right b.0.moment.tables.clauses c.next c b.0.trail (no_unit b.0.moment.tables.clauses c.next c.trail b.0.trail c.units.items b.1.no_trail f.no_units (ap (λ t. t.level) f.trail)) [] number hints
+            (record { clause = []; live = b.1.clauses.numbered number f.empty_is.0 f.empty_is.1 ∙ ap Some f.empty_is.2; same = refl }) are [] (λ m has. absurd (true≢false (sym has)));
         free = ap (get b.0.moment.tables.clauses) f.next ∙ b.1.no_more (length (clauses_of formula.constraints) + 1) (omega arith);
         served = b.1.tidy.served;
         conflicts = b.1.no_conflict ∙ sym f.conflicts;

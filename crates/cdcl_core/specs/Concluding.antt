@@ -1,12 +1,11 @@
 -- What a conflict comes to.
-use Rattle.std.specs.Prelude.{◌≡◌, ℕ, ◌+◌, ◌<◌, ◌≤◌, List, [], ◌∷◌, length, Option, Some, None, Result, OnOk, IfOk, IsFalse, IsTrue, ◌≢◌}
+use Rattle.std.specs.Prelude.{◌≡◌, ℕ, ◌+◌, ◌<◌, ◌≤◌, ℤ, List, [], ◌∷◌, length, Option, Some, None, Result, OnOk, IfOk, IsFalse, IsTrue, ◌≢◌}
 use Rattle.std.specs.List.{AllByRecursion}
 use Rattle.cx_base.specs.Assumptions.{clashes, IsFailed}
 use Rattle.cx_base.specs.Problem.{Problem, Unmet}
 use Rattle.cx_base.specs.Literals.{Literal}
 use Rattle.cx_base.specs.declared.steps.LogEvent.{LogEvent}
 use Rattle.cx_base.specs.declared.steps.LogStep.{LogStep}
-use Rattle.cx_semantics.specs.LogRules.{HasChain}
 use Rattle.cx_semantics.specs.Marked.{Marked}
 use Rattle.cx_semantics.specs.Tables.{get}
 use Rattle.cx_semantics.specs.Chain.{has_literal}
@@ -15,6 +14,7 @@ use Rattle.conflict_learn.specs.Faults.{fault_in}
 use Rattle.parity_engine.specs.State.{State}
 use Rattle.parity_engine.specs.declared.state.Mood.TheVariants.{Broken}
 use Rattle.search_steps.specs.Holding.{AreTold}
+use Rattle.search_steps.specs.Hints.{AreHintsFor, AreHinted}
 use Rattle.search_steps.specs.Schedule.{IsScheduled}
 use Rattle.search_steps.specs.Search.{Search, IsSearch}
 use Rattle.cx_trail.specs.Sequence.{IsFalseIn}
@@ -26,10 +26,11 @@ use Rattle.cdcl_search.specs.declared.state.SearchState.{SearchState}
 use Rattle.cdcl_search.specs.declared.logs.SearchLog.{SearchLog}
 use Rattle.cdcl_search.specs.Logs.{GoesOn, Stands, told_in}
 use Rattle.cdcl_search.specs.Tells.{IsId, as_events, with_events, IsTellable}
-use Rattle.cdcl_search.specs.Ties.{SearchStands}
-use Rattle.cdcl_search.specs.Sources.{IsSourced}
+use Rattle.cdcl_search.specs.Ties.{SearchStands, first_row_id}
+use Rattle.cdcl_search.specs.Sources.{IsSourcedBy}
 use Rattle.cdcl_search.specs.Explaining.{IsReasonOf}
 use Rattle.cdcl_search.specs.Finds.{IsClash}
+use Rattle.cdcl_search.specs.Units.{AreUnitsAnd}
 use Rattle.conflict_learn.specs.Learning.{IsAntecedent}
 use Rattle.cdcl_core.specs.Results.{Refutes, EndsFor}
 use Rattle.cdcl_core.specs.Shortening.{AreShort}
@@ -37,21 +38,21 @@ use Rattle.cdcl_core.specs.declared.conflicts.Conclusion.{Conclusion}
 use Rattle.cdcl_core.specs.declared.conflicts.Conflict.{Conflict}
 use Rattle.cdcl_core.specs.declared.conflicts.Conclusion.TheVariants.{Clause, Ending}
 
--- the clause of a conflict: it is held, and each of its literals is false
-pub record IsConflictClause (c : SearchState) (rows : List (List Literal)) (clause : List Literal) : Type 0 where
-  pub sourced : IsSourced c rows clause
+-- the clause of a conflict: it is held under this id, and each of its literals is false
+pub record IsConflictClause (c : SearchState) (rows : List (List Literal)) (clause : List Literal) (n : ℕ) : Type 0 where
+  pub sourced : IsSourcedBy c rows clause n
   pub all_false : (m : Literal) → IsTrue (has_literal clause m) → IsFalseIn c.trail.entries m
 
--- the search is above level 0 at a conflict with this clause; of rows these clauses were told since the last mark
-pub record IsAtConflict {P L : Type 0} (p : engine.Ghosts P) (m : sink.Ghosts L LogEvent) (log : SearchLog L) (c : SearchState) (e : P) (rows : List (List Literal)) (clause : List Literal) : Type 0 where
+-- the search is above level 0 at a conflict with this clause, which has this id; of rows these clauses were told since the last mark
+pub record IsAtConflict {P L : Type 0} (p : engine.Ghosts P) (m : sink.Ghosts L LogEvent) (log : SearchLog L) (c : SearchState) (e : P) (rows : List (List Literal)) (clause : List Literal) (n : ℕ) : Type 0 where
   pub stands : Stands p m log c e rows
-  pub conflict : IsConflictClause c rows clause
+  pub conflict : IsConflictClause c rows clause n
   pub above : 0 < c.trail.level
 
--- the log is ended with these failed assumptions, and marked this often, and learned clauses are deleted on schedule
+-- the log is ended with these failed assumptions, and marked this often, learned clauses are deleted on schedule, and the hints are right
 abbrev pub IsEndedWith : Problem → ℕ → List Literal → Option (List LogEvent) → Type 0
 IsEndedWith formula marks failed None = Unit {0}
-IsEndedWith formula marks failed (Some events) = EndsFor formula events failed × Marked formula events marks × IsScheduled events
+IsEndedWith formula marks failed (Some events) = EndsFor formula events failed × Marked formula events marks × IsScheduled events × AreHinted events
 
 -- telling these steps ends the log, with these failed assumptions; so no values meet the formula
 pub record EndsLog (formula : Problem) (marks : ℕ) (told : Option (List LogEvent)) (failed : List Literal) (steps : List LogStep) : Type 0 where
@@ -66,8 +67,9 @@ abbrev pub IsTold : Conflict → Type 0
 IsTold k = IsId k.id × (length k.rows.items ≤ 1)
 
 -- the clause of a row is the conflict's, and the only one that was told for it
-pub record IsToldRow (clause : List Literal) (k : Conflict) : Type 0 where
+pub record IsToldRow (c : SearchState) (clause : List Literal) (k : Conflict) : Type 0 where
   pub lits : k.lits ≡ clause
+  pub id : k.id ≡ first_row_id c.next
   pub rows : k.rows.items ≡ clause ∷ []
   pub told : IsTold k
 
@@ -87,13 +89,13 @@ IsRowAgainst c e row None = IsClash e row
 IsRowAgainst c e row (Some l) = IsReasonOf e c.trail.entries l row
 
 -- the clause of a conflict; or the one that implied the literal that contradicts an assumed one
-abbrev pub IsClauseAgainst : SearchState → List (List Literal) → Option Literal → List Literal → Type 0
-IsClauseAgainst c rows None clause = IsConflictClause c rows clause
-IsClauseAgainst c rows (Some l) clause = IsSourced c rows clause × IsAntecedent c.trail l clause
+abbrev pub IsClauseAgainst : SearchState → List (List Literal) → Option Literal → List Literal → ℕ → Type 0
+IsClauseAgainst c rows None clause n = IsConflictClause c rows clause n
+IsClauseAgainst c rows (Some l) clause n = IsSourcedBy c rows clause n × IsAntecedent c.trail l clause
 
 -- such a clause, or steps that end the log, where what fails has no unit clause of level 0
 abbrev pub Concludes : Problem → SearchState → State → Option (List LogEvent) → Option Literal → Conclusion → Type 0
-Concludes formula c e told kept (Clause k) = SearchStands formula c e k.rows.items told × IsClauseAgainst c k.rows.items kept k.lits × IsTold k
+Concludes formula c e told kept (Clause k) = SearchStands formula c e k.rows.items told × IsClauseAgainst c k.rows.items kept k.lits k.id × IsTold k
 Concludes formula c e told kept (Ending n) = SearchStands formula c e [] told × EndsLog formula c.conflicts told n.failed n.steps.items × AreShort c kept n.failed
 
 -- it is a clause, and not steps that end the log
@@ -112,18 +114,18 @@ pub record ConcludesOn {P L : Type 0} (p : engine.Ghosts P) (m : sink.Ghosts L L
   pub concludes : IfOk result (λ k. Concludes new.formula.now c (p.state e) (told_in m new) kept k)
   pub log : GoesOn m old (fault_in result) new
 
--- the clauses of the search show the empty clause, which may have this id; this many conflicts are counted
-pub record IsContradicted (formula : Problem) (id marks : ℕ) (s : Search) : Type 0 where
+-- The unit clauses that make these literals false and the clause of this id, which has them, are right hints for the empty clause. That may have the next id.
+pub record IsContradicted (formula : Problem) (c : SearchState) (lits : List Literal) (n : ℕ) (s : Search) : Type 0 where
   pub parities : List (List Literal)
   pub search : IsSearch formula parities s
-  pub chain : HasChain s.moment.tables.clauses []
-  pub free : get s.moment.tables.clauses id ≡ None
+  pub hinted : (hints : List ℤ) → AreUnitsAnd c lits n hints → AreHintsFor s.moment.tables.clauses [] hints
+  pub free : get s.moment.tables.clauses c.next ≡ None
   pub served : IsFalse s.moment.awaits
-  pub conflicts : s.conflicts ≡ marks
+  pub conflicts : s.conflicts ≡ c.conflicts
 
--- the clauses that were told show the empty clause, which may have this id
-abbrev pub IsRefutable : Problem → ℕ → ℕ → Option (List LogEvent) → Type 0
-IsRefutable formula id marks told = IsId id × ((s : Search) × AreTold told s.events × IsContradicted formula id marks s)
+-- so it is after what was told
+abbrev pub IsRefutable : Problem → SearchState → List Literal → ℕ → Option (List LogEvent) → Type 0
+IsRefutable formula c lits n told = IsId c.next × ((s : Search) × AreTold told s.events × IsContradicted formula c lits n s)
 
 -- the search is before a propagation, with fewer counted conflicts than the budget
 pub record SearchGoesOn (formula : Problem) (budget : ℕ) (told : Option (List LogEvent)) (c : SearchState) (e : State) : Type 0 where

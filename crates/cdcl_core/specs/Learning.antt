@@ -7,18 +7,18 @@ use Rattle.cx_base.specs.declared.steps.LogEvent.{LogEvent}
 use Rattle.cx_base.specs.Integers.{integers_of, literals}
 use Rattle.cx_semantics.specs.Chain.{has_literal}
 use Rattle.cx_semantics.specs.Ids.{highest_id}
-use Rattle.cx_semantics.specs.LogRules.{HasChain}
 use Rattle.cx_trail.specs.Sequence.{TrailState, IsTrueIn}
-use Rattle.conflict_learn.specs.Learning.{negated_at, IsFalling}
+use Rattle.conflict_learn.specs.Learning.{negated_at, literals_of, IsFalling}
 use Rattle.conflict_learn.specs.Levels.{levels_at, second, Teaches}
 use Rattle.conflict_learn.specs.Touching.{AreTouched}
 use Rattle.conflict_learn.specs.declared.learning.Learned.{Learned}
 use Rattle.parity_engine.specs.State.{State}
+use Rattle.search_steps.specs.Hints.{AreHintsFor}
 use Rattle.search_steps.specs.Search.{Search, IsSearch, IsLearnedOf}
 use Rattle.search_steps.specs.LogSteps.{after_round}
 use Rattle.search_steps.specs.Holding.{AreTold}
 use Rattle.cdcl_search.specs.declared.state.SearchState.{SearchState}
-use Rattle.cdcl_search.specs.Sources.{IsSourced}
+use Rattle.cdcl_search.specs.Sources.{IsSourcedBy}
 use Rattle.cdcl_search.specs.Ties.{SearchStands, Ties, IsWatched}
 
 -- The literals are the negations of those at falling places of the trail. The back level is that of the second one, 0 where there is none.
@@ -30,13 +30,12 @@ pub record ArePlaced (trail : TrailState) (lits : List Literal) (back : ℕ) : T
   pub within : first < length trail.entries
   pub back_is : back ≡ second (levels_at trail (first ∷ rest))
 
--- The search is before the mark. The clause has a right chain, is asserting by its first literal and is no ending clause, and there is an id for it and a number for its mark.
+-- The search is before the mark. The clause is asserting by its first literal and is no ending clause, and there is an id for it and a number for its mark.
 pub record IsTaught (formula : Problem) (c : SearchState) (e : State) (lits : List Literal) (back : ℕ) (s : Search) : Type 0 where
   pub search : IsSearch formula e.parities s
   pub rows : List (List Literal)
   pub ties : Ties formula c e rows s
   pub watched : IsWatched c.watches c.arena c.trail
-  pub chain : HasChain s.moment.tables.clauses lits
   pub first : Literal
   pub more : List Literal
   pub parts : lits ≡ first ∷ more
@@ -47,18 +46,19 @@ pub record IsTaught (formula : Problem) (c : SearchState) (e : State) (lits : Li
   pub room : c.next ≤ highest_id
   pub few : c.conflicts < 10 ^ 18
 
--- What the sink tells ends with the mark, the learned clause with hints, and the deletions of the clauses of rows.
+-- What the sink tells ends with the mark, the learned clause with right hints, and the deletions of the clauses of rows.
 pub record Learns (formula : Problem) (c : SearchState) (e : State) (lits : List Literal) (back : ℕ) (told : Option (List LogEvent)) : Type 0 where
   pub search : Search
   pub taught : IsTaught formula c e lits back search
   pub hints : List ℤ
+  pub right : AreHintsFor search.moment.tables.clauses lits hints
   pub told_is : AreTold told (after_round search c.next (integers_of lits) hints back taught.first).events
 
 -- The clause that a conflict teaches: resolved from that and the clauses that the search holds, on literals of the trail, which are touched with its own.
 pub record IsLesson (c : SearchState) (rows : List (List Literal)) (conflict : List Literal) (learned : Learned) : Type 0 where
-  pub teaches : Teaches c.trail conflict (IsSourced c rows) learned.resolved learned.lits learned.back_level learned.lbd
-  pub stand : (l : Literal) → IsTrue (has_literal learned.resolved l) → IsTrueIn c.trail.entries l
-  pub touched : AreTouched c.trail learned.resolved learned.lits learned.touched.items
+  pub teaches : Teaches c.trail conflict (IsSourcedBy c rows) learned.resolved.items learned.lits learned.back_level learned.lbd
+  pub stand : (l : Literal) → IsTrue (has_literal (literals_of learned.resolved.items) l) → IsTrueIn c.trail.entries l
+  pub touched : AreTouched c.trail (literals_of learned.resolved.items) learned.lits learned.touched.items
 
 -- where the sink was told what this clause was learned from, the search fits that
 abbrev pub StandsBehind : Problem → SearchState → State → Learned → SearchState → State → Type 0

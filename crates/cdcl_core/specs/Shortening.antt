@@ -69,11 +69,10 @@ abbrev pub late_unit_events : List ℤ → List UnitClause → List LogEvent
 late_unit_events hints [] = []
 late_unit_events hints (u ∷ us) = Step (ClauseWithHints u.id (integer_of u.literal ∷ []) hints) ∷ late_unit_events hints us
 
--- Steps that end the log by a row's clause, of whose literals none is left: those that no unit clause made false get one, after this many clauses of rows.
-pub record EndsByUnits (c : SearchState) (constraints rows : ℕ) (reason : ReasonOf) (e : LogEnd) : Type 0 where
+-- Steps that end the log by a row's clause, of whose literals none is left: those that no unit clause made false get one by a chain with these hints, after this many clauses of rows.
+pub record EndsByUnits (c : SearchState) (constraints rows : ℕ) (reason : ReasonOf) (hints : List ℤ) (e : LogEnd) : Type 0 where
   pub short : Shortened
   pub shortened : IsShortened c reason.clause short
-  pub hints : List ℤ
   pub last : Shortened
   pub units : last.units.items ≡ short.units.items ++ late_units_from (first_row_id c.next + rows) short.left
   pub nothing : last.left ≡ []

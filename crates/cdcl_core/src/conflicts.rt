@@ -87,7 +87,7 @@ pub(crate) fn told_row<P: ParityEngine, L: Sink<Item = LogEvent>>(
     requires explains { Explains (P.state engine.now).parities state.now.trail reason }
     requires goes_on { IsFalse (is_ending log.old.formula.now.constraints reason.clause) }
     requires going { HasNotFailed L.Sink log.old }
-    ensures told { IfOk result (IsToldRow reason.clause) }
+    ensures told { IfOk result (IsToldRow state.now reason.clause) }
     ensures stands { IfOk result (λ k. Stands P.ParityEngine L.Sink log.new state.now engine.now k.rows.items) }
     ensures log { GoesOn L.Sink log.old (fault_in result) log.new }
 {

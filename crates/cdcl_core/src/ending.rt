@@ -40,7 +40,7 @@ pub(crate) fn refute<L: Sink<Item = LogEvent>>(
     requires known { All (λ l. l.variable ≤ state.now.trail.variables) lits.now }
     requires units { All IsId state.now.units.items }
     requires id { IsId id }
-    requires shown { IsRefutable log.old.formula.now state.now.next state.now.conflicts (told_in L.Sink log.old) }
+    requires shown { IsRefutable log.old.formula.now state.now lits.now id (told_in L.Sink log.old) }
     requires going { HasNotFailed L.Sink log.old }
     ensures { TellsEmpty L.Sink log.old state.now.conflicts log.new result }
 {

@@ -1,5 +1,5 @@
 //! Assumptions that fail.
-ghost use Rattle.std.specs.Prelude.{◌≡◌, ◌≤◌, List, [], length, IfOk, OnOk, None};
+ghost use Rattle.std.specs.Prelude.{◌≡◌, ℕ, ◌≤◌, List, [], length, IfOk, OnOk, None};
 ghost use Rattle.cx_semantics.specs.Chain.{negations};
 ghost use Rattle.conflict_learn.specs.Faults.{fault_in};
 ghost use Rattle.conflict_learn.specs.Marks.{AreClear};
@@ -52,12 +52,13 @@ fn trace<'x, P: ParityEngine, L: Sink<Item = LogEvent>>(
     marks: &mut Marks,
 ) -> Result<Final, CoreFault>
     requires stands { Stands P.ParityEngine L.Sink log.old state.now engine.now rows.old.items }
-    requires fails { IsFailure log.old.formula.now.constraints state.now lits.now kept.now below rows.old.items }
+    requires fails { (n : ℕ) × IsFailure log.old.formula.now.constraints state.now lits.now n kept.now below rows.old.items }
     requires few_rows { length rows.old.items ≤ 1 }
     requires clear { AreClear marks.old }
     requires going { HasNotFailed L.Sink log.old }
     ensures stands { OnOk result (Stands P.ParityEngine L.Sink log.new state.now engine.now rows.new.items) }
-    ensures left { IfOk result (IsLeftOf log.new.formula.now.constraints state.now lits.now kept.now below rows.new.items) }
+    ensures left { (n : ℕ) → IsFailure log.old.formula.now.constraints state.now lits.now n kept.now below rows.old.items
+        → IfOk result (IsLeftOf log.new.formula.now.constraints state.now lits.now n kept.now below rows.new.items) }
     ensures clear { OnOk result (AreClear marks.new) }
     ensures log { GoesOn L.Sink log.old (fault_in result) log.new }
 {
@@ -89,7 +90,7 @@ pub(crate) fn fail<P: ParityEngine, L: Sink<Item = LogEvent>>(
     failure: Failure,
 ) -> Result<LitList, CoreFault>
     requires stands { Stands P.ParityEngine L.Sink log.old state.now engine.now failure.conflict.rows.items }
-    requires fails { IsFailure log.old.formula.now.constraints state.now failure.conflict.lits failure.kept failure.below failure.conflict.rows.items }
+    requires fails { IsFailure log.old.formula.now.constraints state.now failure.conflict.lits failure.conflict.id failure.kept failure.below failure.conflict.rows.items }
     requires told { IsTold failure.conflict }
     requires clear { AreClear marks.old }
     requires going { HasNotFailed L.Sink log.old }
@@ -105,9 +106,8 @@ pub(crate) fn fail<P: ParityEngine, L: Sink<Item = LogEvent>>(
     let Conflict { lits, id, rows } = conflict;
     let mut rows = rows;
     let left = trace(log, state, engine, &lits, &kept, below, &mut rows, marks)?;
-    let resolved = left.resolved.as_slice();
     let clause = left.lits.as_slice();
-    let hints = hints_of_lesson(log.alloc, state, resolved, rows.len(), id)?;
+    let hints = hints_of_lesson(log.alloc, &left.resolved, id)?;
     let failed = negated(log.alloc, clause)?;
     tell_chained(log, state.next, clause, hints)?;
     Ok(failed)

@@ -5,6 +5,7 @@ ghost use Rattle.cx_base.specs.Literals.{Literal};
 ghost use Rattle.cx_base.specs.declared.steps.LogEvent.{LogEvent};
 ghost use Rattle.cx_base.specs.declared.constraint.Constraint.{Constraint};
 ghost use Rattle.search_policy.specs.Assuming.{KeepsAssumptions};
+ghost use Rattle.conflict_learn.specs.Learning.{literals_of};
 ghost use Rattle.conflict_learn.specs.Touching.{AreTouched};
 ghost use Rattle.watch_lists.specs.Watching.{Fits};
 ghost use Rattle.watch_lists.specs.Attaching.{CanBeWatched, literal_at};
@@ -119,7 +120,7 @@ pub(crate) fn jump<P: ParityEngine>(
     learned: &Learned,
 ) -> Result<(), AllocError>
     requires learned { (told : Option (List LogEvent)) × Learns formula.now state.old (P.state engine.old) learned.now.lits learned.now.back_level told }
-    requires touched { AreTouched state.old.trail learned.now.resolved learned.now.lits learned.now.touched.items }
+    requires touched { AreTouched state.old.trail (literals_of learned.now.resolved.items) learned.now.lits learned.now.touched.items }
     ensures stands { OnOk result (StandsBehind formula.now state.old (P.state engine.old) learned.now state.new (P.state engine.new)) }
     ensures counted { OnOk result (state.new.conflicts ≡ state.old.conflicts + 1) }
     ensures level { OnOk result (state.new.trail.level ≡ learned.now.back_level) }

@@ -1,23 +1,23 @@
 //! Learning from a conflict.
-ghost use Rattle.std.specs.Prelude.{◌≡◌, ◌<◌, ◌≤◌, ◌^◌, ◌∷◌, length, IfOk, OnOk, IsTrue};
-ghost use Rattle.cx_base.specs.Literals.{Literal};
-ghost use Rattle.cx_semantics.specs.Chain.{has_literal};
-ghost use Rattle.cx_trail.specs.Sequence.{IsTrueIn};
+ghost use Rattle.std.specs.Prelude.{◌≡◌, ℕ, ◌<◌, ◌≤◌, ◌^◌, pos, [], ◌∷◌, ◌++◌, length, IfOk, OnOk};
+ghost use Rattle.std.specs.List.{Contains};
 ghost use Rattle.cx_base.specs.Integers.{integers_of, literals};
 ghost use Rattle.cx_base.specs.Numbers.{AreStepIntegers};
 ghost use Rattle.cx_base.specs.declared.steps.LogEvent.TheVariants as event;
 ghost use Rattle.cx_base.specs.declared.steps.LogStep.TheVariants as step;
 ghost use Rattle.conflict_learn.specs.Faults.{fault_in};
+ghost use Rattle.conflict_learn.specs.Learning.{literals_of};
+ghost use Rattle.conflict_learn.specs.declared.learning.Resolved.{Resolved};
 ghost use Rattle.conflict_learn.specs.Marks.{AreClear};
 ghost use Rattle.conflict_learn.specs.Touching.{AreTouched};
 ghost use Rattle.search_policy.specs.Assuming.{AreApart};
-ghost use Rattle.parity_engine.specs.State.{State};
+ghost use Rattle.search_steps.specs.Hints.{hints_from};
 ghost use Rattle.search_steps.specs.Recovering.{SettledWithRecovered};
 ghost use Rattle.cdcl_search.specs.Deleting.{deletions};
 ghost use Rattle.cdcl_search.specs.Tells.{IsId, AreIdsFrom, AreStepsOf};
 ghost use Rattle.cdcl_search.specs.Logs.{GoesOn, HasNotFailed, told_in};
-ghost use Rattle.cdcl_search.specs.Ties.{first_row_id, row_ids, HaveReasons};
-ghost use Rattle.cdcl_search.specs.Sources.{HasIds, RowsAreApart};
+ghost use Rattle.cdcl_search.specs.Ties.{first_row_id, row_ids};
+ghost use Rattle.cdcl_search.specs.Sources.{RowsAreApart};
 ghost use Rattle.cdcl_core.specs.Concluding.{IsAtConflict, IsTold};
 ghost use Rattle.cdcl_core.specs.Failing.{IsFree};
 ghost use Rattle.cdcl_core.specs.Learning.{Learns, IsLesson};
@@ -29,10 +29,10 @@ use cdcl_search::deleting::put_deletions;
 use cdcl_search::integers::integers;
 use cdcl_search::logs::SearchLog;
 use cdcl_search::rows::first_id_of_rows;
-use cdcl_search::source::{Source, silent_id};
+use cdcl_search::source::Source;
 use cdcl_search::steps::chained;
 use cdcl_search::telling::tell_round;
-use conflict_learn::{CoreFault, Learned, Marks, analyse};
+use conflict_learn::{CoreFault, Learned, Marks, Resolved, analyse};
 use cx_base::{IntList, Lit, LitList, LogEvent, LogStep};
 use parity_engine::ParityEngine;
 use std::alloc::{AllocError, Global};
@@ -58,53 +58,35 @@ fn steps_of_learned(
     Ok(steps)
 }
 
-/// The ids of the clauses that implied the resolved literals, the last one's first.
-///
-/// The clauses of rows were told in the order of these literals, and the log has this many.
+/// The ids of the clauses of the resolved literals, the last one's first.
 pub(crate) fn hints_of_resolved(
     alloc: Global,
-    state: &SearchState,
-    resolved: &[Lit],
-    rows: usize,
+    resolved: &[Resolved],
 ) -> Result<Vec<i64>, AllocError>
-    requires ids { HasIds state.now }
-    requires rows { AreIdsFrom (first_row_id state.now.next) rows }
-    requires stand { (l : Literal) → IsTrue (has_literal resolved.now l) → IsTrueIn state.now.trail.entries l }
-    requires reasons { (e : State) × HaveReasons state.now e }
-    ensures { IfOk result (λ hints. AreStepIntegers hints.items) }
+    requires { (r : Resolved) → Contains resolved.now r → IsId r.id }
+    ensures hints { IfOk result (λ hints. hints.items ≡ hints_from resolved.now) }
+    ensures integers { IfOk result (λ hints. AreStepIntegers hints.items) }
 {
     let mut hints = Vec::with_capacity(alloc, resolved.len())?;
-    let first = first_id_of_rows(state.next);
-    let mut behind = rows;
     let mut left = resolved.len();
     while left > 0 {
         left -= 1;
-        let silent = silent_id(state, resolved[left]);
-        if silent.is_none() {
-            behind = behind.saturating_sub(1);
-        }
-        push_hint(&mut hints, silent.unwrap_or(first + behind as u64))?;
+        push_hint(&mut hints, resolved[left].id)?;
     }
     Ok(hints)
 }
 
-/// The hints of a learned clause: the ids of the clauses that implied the resolved literals, the last one's first, and then the conflict's.
-///
-/// The log has this many clauses of rows.
+/// The hints of a learned clause: the ids of the clauses of the resolved literals, the last one's first, and then the conflict's.
 pub(crate) fn hints_of_lesson(
     alloc: Global,
-    state: &SearchState,
-    resolved: &[Lit],
-    rows: usize,
+    resolved: &[Resolved],
     conflict: u64,
 ) -> Result<IntList, AllocError>
-    requires ids { HasIds state.now }
-    requires rows { AreIdsFrom (first_row_id state.now.next) rows }
+    requires ids { (r : Resolved) → Contains resolved.now r → IsId r.id }
     requires conflict { IsId conflict }
-    requires stand { (l : Literal) → IsTrue (has_literal resolved.now l) → IsTrueIn state.now.trail.entries l }
-    requires reasons { (e : State) × HaveReasons state.now e }
+    ensures { IfOk result (λ hints. hints ≡ hints_from resolved.now ++ pos conflict ∷ []) }
 {
-    let mut hints = hints_of_resolved(alloc, state, resolved, rows)?;
+    let mut hints = hints_of_resolved(alloc, resolved)?;
     push_hint(&mut hints, conflict)?;
     Ok(IntList::from_vec(hints))
 }
@@ -120,7 +102,7 @@ fn tell_learned<P: ParityEngine, L: Sink<Item = LogEvent>>(
     id: u64,
     learned: &Learned,
 ) -> Result<(), CoreFault>
-    requires at { IsAtConflict P.ParityEngine L.Sink log.old state.now engine.now rows.now conflict.now }
+    requires at { IsAtConflict P.ParityEngine L.Sink log.old state.now engine.now rows.now conflict.now id }
     requires few { state.now.conflicts < 10 ^ 18 }
     requires id { IsId id }
     requires unsettled { ¬ SettledWithRecovered log.old.formula.now }
@@ -130,8 +112,7 @@ fn tell_learned<P: ParityEngine, L: Sink<Item = LogEvent>>(
     ensures learned { OnOk result (Learns log.new.formula.now state.now (P.state engine.now) learned.now.lits learned.now.back_level (told_in L.Sink log.new)) }
     ensures log { GoesOn L.Sink log.old (fault_in result) log.new }
 {
-    let resolved = learned.resolved.as_slice();
-    let hints = hints_of_lesson(log.alloc, state, resolved, rows.len(), id)?;
+    let hints = hints_of_lesson(log.alloc, &learned.resolved, id)?;
     let steps = steps_of_learned(
         log.alloc,
         state.next,
@@ -152,11 +133,12 @@ fn lesson_of<'x, P: ParityEngine, L: Sink<Item = LogEvent>>(
     marks: &mut Marks,
 ) -> Result<Learned, CoreFault>
     requires apart { RowsAreApart log.old.formula.now.constraints state.now.trail (length state.now.trail.entries) }
-    requires at { IsAtConflict P.ParityEngine L.Sink log.old state.now engine.now rows.old.items conflict.now }
+    requires at { (n : ℕ) × IsAtConflict P.ParityEngine L.Sink log.old state.now engine.now rows.old.items conflict.now n }
     requires few_rows { length rows.old.items ≤ 1 }
     requires clear { AreClear marks.old }
     requires going { HasNotFailed L.Sink log.old }
-    ensures at { OnOk result (IsAtConflict P.ParityEngine L.Sink log.new state.now engine.now rows.new.items conflict.now) }
+    ensures at { (n : ℕ) → IsAtConflict P.ParityEngine L.Sink log.old state.now engine.now rows.old.items conflict.now n
+        → OnOk result (IsAtConflict P.ParityEngine L.Sink log.new state.now engine.now rows.new.items conflict.now n) }
     ensures lesson { IfOk result (IsLesson state.now rows.new.items conflict.now) }
     ensures clear { OnOk result (AreClear marks.new) }
     ensures log { GoesOn L.Sink log.old (fault_in result) log.new }
@@ -182,14 +164,14 @@ pub(crate) fn learn<P: ParityEngine, L: Sink<Item = LogEvent>>(
 ) -> Result<Learned, CoreFault>
     requires apart { AreApart log.old.formula.now.constraints state.now.trail (length state.now.trail.entries) }
     requires free { IsFree log.old.formula.now.constraints state.now.trail }
-    requires at { IsAtConflict P.ParityEngine L.Sink log.old state.now engine.now conflict.rows.items conflict.lits }
+    requires at { IsAtConflict P.ParityEngine L.Sink log.old state.now engine.now conflict.rows.items conflict.lits conflict.id }
     requires few { state.now.conflicts < 10 ^ 18 }
     requires told { IsTold conflict }
     requires unsettled { ¬ SettledWithRecovered log.old.formula.now }
     requires clear { AreClear marks.old }
     requires going { HasNotFailed L.Sink log.old }
     ensures learned { IfOk result (λ r. Learns log.new.formula.now state.now (P.state engine.now) r.lits r.back_level (told_in L.Sink log.new)) }
-    ensures touched { IfOk result (λ r. AreTouched state.now.trail r.resolved r.lits r.touched.items) }
+    ensures touched { IfOk result (λ r. AreTouched state.now.trail (literals_of r.resolved.items) r.lits r.touched.items) }
     ensures clear { OnOk result (AreClear marks.new) }
     ensures log { GoesOn L.Sink log.old (fault_in result) log.new }
 {

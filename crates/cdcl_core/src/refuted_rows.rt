@@ -9,11 +9,12 @@ ghost use Rattle.cx_semantics.specs.Chain.{has_literal};
 ghost use Rattle.cx_trail.specs.Sequence.{IsFalseIn};
 ghost use Rattle.conflict_learn.specs.Faults.{fault_in};
 ghost use Rattle.conflict_learn.specs.Final.{IsFinal, StandsBelow};
+ghost use Rattle.conflict_learn.specs.Learning.{literals_of};
 ghost use Rattle.conflict_learn.specs.Marks.{AreClear};
 ghost use Rattle.parity_engine.specs.Written.{AreRising};
 ghost use Rattle.cdcl_search.specs.Explaining.{Explains};
 ghost use Rattle.cdcl_search.specs.Logs.{GoesOn, HasNotFailed, Stands, told_in};
-ghost use Rattle.cdcl_search.specs.Sources.{HasIds, IsSourced, RowsAreApart};
+ghost use Rattle.cdcl_search.specs.Sources.{HasIds, IsSourcedBy, RowsAreApart};
 ghost use Rattle.cdcl_search.specs.Tells.{as_events, AreIdsFrom, AreStepsOf, IsId, IsStep, IsTellable};
 ghost use Rattle.cdcl_core.specs.Concluding.{EndsLog};
 ghost use Rattle.cdcl_core.specs.Shortening.{EndsByUnits, late_unit_events, late_units_from};
@@ -50,8 +51,8 @@ fn trace_all<'x, P: ParityEngine, L: Sink<Item = LogEvent>>(
     requires clear { AreClear marks.old }
     requires going { HasNotFailed L.Sink log.old }
     ensures stands { OnOk result (Stands P.ParityEngine L.Sink log.new state.now engine.now rows.new.items) }
-    ensures left { IfOk result (λ x. IsFinal state.now.trail (length state.now.trail.entries) None clause.now (IsSourced state.now rows.new.items) x.resolved x.lits) }
-    ensures stand { IfOk result (λ x. (l : Literal) → IsTrue (has_literal x.resolved l) → StandsBelow state.now.trail (length state.now.trail.entries) l) }
+    ensures left { IfOk result (λ x. IsFinal state.now.trail (length state.now.trail.entries) None clause.now (IsSourcedBy state.now rows.new.items) x.resolved.items x.lits) }
+    ensures stand { IfOk result (λ x. (l : Literal) → IsTrue (has_literal (literals_of x.resolved.items) l) → StandsBelow state.now.trail (length state.now.trail.entries) l) }
     ensures clear { OnOk result (AreClear marks.new) }
     ensures log { GoesOn L.Sink log.old (fault_in result) log.new }
 {
@@ -125,7 +126,7 @@ fn end_of_refuted(
     requires known { All (λ l. l.variable ≤ state.now.trail.variables) reason.clause }
     requires short { length reason.clause ≤ 268435455 }
     requires sources { (parities : ℕ) × (parities ≤ length formula.now.constraints) × AreRising 1 parities reason.sources }
-    ensures { IfOk result (EndsByUnits state.now (length formula.now.constraints) rows reason) }
+    ensures { IfOk result (EndsByUnits state.now (length formula.now.constraints) rows reason hints.now) }
 {
     let short = shorten(alloc, state, reason.clause.as_slice())?;
     let Shortened { left, units } = short;
@@ -165,10 +166,8 @@ pub(crate) fn refute_row<P: ParityEngine, L: Sink<Item = LogEvent>>(
 {
     let mut rows = Vec::new(log.alloc);
     let traced = trace_all(log, state, engine, &reason.clause, &mut rows, marks)?;
-    let resolved = traced.resolved.as_slice();
     let count = rows.len();
-    let hints = hints_of_resolved(log.alloc, state, resolved, count)?;
-    let hints = IntList::from_vec(hints);
+    let hints = IntList::from_vec(hints_of_resolved(log.alloc, &traced.resolved)?);
     let ending = end_of_refuted(log.alloc, log.formula, state, reason, &hints, count)?;
     Ok(ending)
 }

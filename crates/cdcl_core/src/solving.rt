@@ -68,7 +68,7 @@ fn learn_and_jump<P: ParityEngine, L: Sink<Item = LogEvent>>(
     budget: u64,
     conflict: Conflict,
 ) -> Result<Option<SearchOutcome>, CoreFault>
-    requires at { IsAtConflict P.ParityEngine L.Sink log.old state.old engine.old conflict.rows.items conflict.lits }
+    requires at { IsAtConflict P.ParityEngine L.Sink log.old state.old engine.old conflict.rows.items conflict.lits conflict.id }
     requires told { IsTold conflict }
     requires keeps { KeepsAssumptions log.old.formula.now.constraints assumptions.old state.old.trail }
     requires checked { assumptions.old.checked ≡ length state.old.trail.entries }

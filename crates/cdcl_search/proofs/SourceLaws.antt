@@ -1,5 +1,5 @@
 -- The clauses of a source implied the literals.
-use Rattle.std.proofs.Common.{◌≡◌, refl, sym, ap, ◌∙◌, subst, ℕ, ◌+◌, ◌<◌, ◌≤◌, List, [], ◌∷◌, ◌++◌, length, Contains, arith, inl, inr, length-append, length-take, zero, suc, get_or, Some}
+use Rattle.std.proofs.Common.{◌≡◌, refl, sym, ap, ◌∙◌, subst, ℕ, ◌+◌, ◌<◌, ◌≤◌, List, [], ◌∷◌, ◌++◌, length, arith, inl, inr, length-append, length-take, get_or, Some}
 use Rattle.std.proofs.Math.ListN.{get_or-append}
 use Rattle.cx_base.specs.Literals.{Literal, negate, same_literal}
 use Rattle.cx_base.proofs.LiteralLaws.{negate-negate, same_literal-itself}
@@ -18,12 +18,11 @@ use Rattle.search_steps.proofs.Sets.{not_both}
 use Rattle.search_steps.proofs.Stored.{has_of, of_has}
 use Rattle.search_steps.specs.Search.{Search}
 use Rattle.search_steps.specs.Tied.{IsLiveSet}
-use Rattle.search_steps.proofs.Reasons.{live_is_live_set}
 use Rattle.cdcl_search.specs.declared.state.SearchState.{SearchState}
 use Rattle.cdcl_search.specs.Ties.{HaveReasons, HasReasonOf, IsClauseReasonOf, IsNamedBy, Ties, first_row_id}
 use Rattle.cdcl_search.specs.Explaining.{IsReasonOf}
 use Rattle.std.specs.Prelude.{Result, Ok, Err, IfOk, OnOk, OnErr}
-use Rattle.cdcl_search.specs.Sources.{IsSourced, IsSourcedBy}
+use Rattle.cdcl_search.specs.Sources.{IsSourcedBy}
 use Rattle.cdcl_search.proofs.RowReasons.{entry_taken}
 
 module _ (t : TrailState) (sound : IsTrail t) (l : Literal) (place : ℕ) (less : place < length t.entries) (at : (entry_at t.entries place).literal ≡ negate (negate l)) where
@@ -67,34 +66,12 @@ module _ (c : SearchState) (e : State) (have : HaveReasons c e) (sound : IsTrail
       h.4 (subst (λ p. 0 < (entry_at c.trail.entries p).level) (only_place c.trail sound l place less at h.0 h.1 h.2) above) refl
 
 -- ---- what is sourced
-pub stored_is_sourced : (c : SearchState) (r : ℕ) → IsLive c.arena r → (rows : List (List Literal)) (clause : List Literal) → clause ≡ literals_at c.arena r → IsSourced c rows clause
-stored_is_sourced c r live rows clause is = inl (r, live, is)
+sourced_stays : (c : SearchState) (rows : List (List Literal)) (y clause : List Literal) (n : ℕ) → IsSourcedBy c rows clause n → IsSourcedBy c (rows ++ y ∷ []) clause n
+sourced_stays c rows y clause n (inl a) = inl a
+sourced_stays c rows y clause n (inr (inl u)) = inr (inl u)
+sourced_stays c rows y clause n (inr (inr (i, less, is, at))) = inr (inr (i, let long = length-append rows (y ∷ []) in omega (arith, long, less), is ∙ sym (get_or-append rows (y ∷ []) [] i less), at))
 
-pub stays_in : (xs : List (List Literal)) (y x : List Literal) → Contains xs x → Contains (xs ++ y ∷ []) x
-stays_in xs y x (k, less, e) = (k, let long = length-append xs (y ∷ []) in omega (arith, long, less), get_or-append xs (y ∷ []) x k less ∙ e)
-
-pub sourced_stays : (c : SearchState) (rows : List (List Literal)) (y clause : List Literal) → IsSourced c rows clause → IsSourced c (rows ++ y ∷ []) clause
-sourced_stays c rows y clause (inl a) = inl a
-sourced_stays c rows y clause (inr (inl u)) = inr (inl u)
-sourced_stays c rows y clause (inr (inr k)) = inr (inr (stays_in rows y clause k))
-
--- ---- the source's clauses are live
-row_at : (xs : List (List Literal)) (x : List Literal) (h : Contains xs x) → get_or xs h.0 [] ≡ x
-row_at [] x (n, less, is) = absurd (omega (arith, less))
-row_at (y ∷ xs) x (zero, less, is) = is
-row_at (y ∷ xs) x (suc n, less, is) = row_at xs x (n, omega (arith, less), is)
-
-pub sourced_is_live : (formula : Problem) (c : SearchState) (e : State) (rows : List (List Literal)) (s : Search) → Ties formula c e rows s → (clause : List Literal) → IsSourced c rows clause → IsLiveSet s.moment.tables.clauses clause
-sourced_is_live formula c e rows s t clause (inl (r, live, is)) =
-    let named = (t.clauses.stored r live).named in
-    subst (IsLiveSet s.moment.tables.clauses) (sym is) (named.clause, (_, named.live), named.same)
-sourced_is_live formula c e rows s t clause (inr (inl (i, less, is))) =
-    let named = t.units.named i less in
-    subst (IsLiveSet s.moment.tables.clauses) (sym is) (named.clause, (_, named.live), named.same)
-sourced_is_live formula c e rows s t clause (inr (inr h)) =
-    live_is_live_set s.moment.tables.clauses clause (first_row_id c.next + h.0, t.log.rows_told h.0 h.1 ∙ ap Some (row_at rows clause h))
-
--- and under their ids
+-- the source's clauses are live under their ids
 pub sourced_is_named : (formula : Problem) (c : SearchState) (e : State) (rows : List (List Literal)) (s : Search) → Ties formula c e rows s → (clause : List Literal) (n : ℕ) → IsSourcedBy c rows clause n → IsNamedBy s.moment.tables.clauses clause n
 sourced_is_named formula c e rows s t clause n (inl (r, live, is, at)) = rw (is, at) (t.clauses.stored r live).named
 sourced_is_named formula c e rows s t clause n (inr (inl (i, less, is, at))) = rw (is, at) (t.units.named i less)
@@ -104,16 +81,8 @@ sourced_is_named formula c e rows s t clause n (inr (inr (i, less, is, at))) = r
   same = and_from _ _ (inside_itself clause) (inside_itself clause);
 }
 
--- one with an id is a clause of the source
-pub sourced_by : (c : SearchState) (rows : List (List Literal)) (clause : List Literal) (n : ℕ) → IsSourcedBy c rows clause n → IsSourced c rows clause
-sourced_by c rows clause n (inl (r, live, is, at)) = inl (r, live, is)
-sourced_by c rows clause n (inr (inl (i, less, is, at))) = inr (inl (i, less, is))
-sourced_by c rows clause n (inr (inr (i, less, is, at))) = inr (inr (subst (Contains rows) (sym is) (i, less, any_default rows i less)))
-  where
-    any_default : (xs : List (List Literal)) (i : ℕ) → i < length xs → get_or xs i (get_or xs i []) ≡ get_or xs i []
-    any_default [] i less = absurd (omega (arith, less))
-    any_default (x ∷ xs) zero less = refl
-    any_default (x ∷ xs) (suc i) less = any_default xs i (omega (arith, less))
+pub sourced_is_live : (formula : Problem) (c : SearchState) (e : State) (rows : List (List Literal)) (s : Search) → Ties formula c e rows s → (clause : List Literal) (n : ℕ) → IsSourcedBy c rows clause n → IsLiveSet s.moment.tables.clauses clause
+sourced_is_live formula c e rows s t clause n is = let by = sourced_is_named formula c e rows s t clause n is in (by.clause, (n, by.live), by.same)
 
 -- ---- rows that grew by one, or are as before
 module _ {T : Type 0} (c : SearchState) (old new : List (List Literal)) (lits : T → List Literal) where
@@ -124,9 +93,9 @@ module _ {T : Type 0} (c : SearchState) (old new : List (List Literal)) (lits : 
       inr (inr (length old, omega (arith, long, both), sym (ap (λ xs. get_or xs (length old) []) h ∙ Rattle.std.proofs.Math.Seq.get_or-append_seam old (lits x) [] []), k))
   last_is_sourced id (Err e) h k = tt
 
-  pub sourced_grows : {E : Type 0} (r : Result T E) → IfOk r (λ x. new ≡ old ++ lits x ∷ []) → OnErr r (new ≡ old) → (clause : List Literal) → IsSourced c old clause → IsSourced c new clause
-  sourced_grows (Ok x) h k clause is = subst (λ xs. IsSourced c xs clause) (sym h) (sourced_stays c old (lits x) clause is)
-  sourced_grows (Err e) h k clause is = subst (λ xs. IsSourced c xs clause) (sym k) is
+  pub sourced_grows : {E : Type 0} (r : Result T E) → IfOk r (λ x. new ≡ old ++ lits x ∷ []) → OnErr r (new ≡ old) → (clause : List Literal) (n : ℕ) → IsSourcedBy c old clause n → IsSourcedBy c new clause n
+  sourced_grows (Ok x) h k clause n is = subst (λ xs. IsSourcedBy c xs clause n) (sym h) (sourced_stays c old (lits x) clause n is)
+  sourced_grows (Err e) h k clause n is = subst (λ xs. IsSourcedBy c xs clause n) (sym k) is
 
   pub one_more : {E : Type 0} (r : Result T E) → IfOk r (λ x. new ≡ old ++ lits x ∷ []) → OnOk r (length new ≤ length old + 1)
   one_more (Ok x) h = let long = ap length h in let both = length-append old (lits x ∷ []) in omega (arith, long, both)

@@ -1,5 +1,5 @@
 -- The clauses that a source holds.
-use Rattle.std.specs.Prelude.{◌≡◌, ◌⊎◌, ℕ, ◌+◌, ◌<◌, ◌-◌, ◌^◌, min, List, [], ◌∷◌, length, get_or, Contains, IsFalse}
+use Rattle.std.specs.Prelude.{◌≡◌, ◌⊎◌, ℕ, ◌+◌, ◌<◌, ◌-◌, ◌^◌, min, List, [], ◌∷◌, length, get_or, IsFalse}
 use Rattle.cx_base.specs.Assumptions.{assumes}
 use Rattle.cx_base.specs.Literals.{Literal, negate}
 use Rattle.cx_base.specs.declared.constraint.Constraint.{Constraint}
@@ -15,13 +15,7 @@ use Rattle.cdcl_search.specs.declared.source.Hinted.{Hinted}
 use Rattle.cdcl_search.specs.Tells.{IsId}
 use Rattle.cdcl_search.specs.Ties.{first_row_id}
 
--- a clause of the arena, a unit clause of level 0, or a clause of a row that was told
-abbrev pub IsSourced : SearchState → List (List Literal) → List Literal → Type 0
-IsSourced c rows clause = ((r : ℕ) × IsLive c.arena r × (clause ≡ literals_at c.arena r))
-    ⊎ ((i : ℕ) × (i < length c.units.items) × (clause ≡ (entry_at c.trail.entries i).literal ∷ []))
-    ⊎ Contains rows clause
-
--- such a clause, and its id in the log
+-- a clause of the arena, a unit clause of level 0, or a clause of a row that was told; and its id in the log
 abbrev pub IsSourcedBy : SearchState → List (List Literal) → List Literal → ℕ → Type 0
 IsSourcedBy c rows clause n = ((r : ℕ) × IsLive c.arena r × (clause ≡ literals_at c.arena r) × (n ≡ id_at c.arena r))
     ⊎ ((i : ℕ) × (i < length c.units.items) × (clause ≡ (entry_at c.trail.entries i).literal ∷ []) × (n ≡ get_or c.units.items i 0))

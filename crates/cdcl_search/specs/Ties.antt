@@ -5,7 +5,6 @@ use Rattle.std.specs.FinSet as set
 use Rattle.cx_base.specs.Literals.{Literal, literal_true}
 use Rattle.cx_base.specs.Problem.{Problem, clauses_of}
 use Rattle.cx_base.specs.declared.steps.LogEvent.{LogEvent}
-use Rattle.cx_semantics.specs.Chain.{same_literals}
 use Rattle.cx_semantics.specs.Fresh.{is_tautology}
 use Rattle.cx_semantics.specs.Tables.{Table, get}
 use Rattle.cx_trail.specs.declared.entry.Entry.{Entry as TrailEntry}
@@ -23,6 +22,7 @@ use Rattle.search_steps.specs.Search.{Search, IsSearch}
 use Rattle.search_steps.specs.Ids.{IsRanged, HasFreeSums}
 use Rattle.search_steps.specs.Tied.{Mirrors}
 use Rattle.search_steps.specs.Engine.{HoldsValues}
+pub use Rattle.search_steps.specs.Hints.{IsNamedBy}
 use Rattle.search_steps.specs.Holding.{AreTold}
 use Rattle.cdcl_search.specs.declared.state.SearchState.{SearchState}
 use Rattle.cx_semantics.specs.Marked.{Moment}
@@ -65,12 +65,6 @@ pub record LogTies (formula : Problem) (parities : List (List Literal)) (next fi
   pub served : HasOnlyRowClauses s first (length rows)
 
 -- ---- the clauses
--- the live clause of this id has just these literals
-pub record IsNamedBy (table : Table) (lits : List Literal) (n : ℕ) : Type 0 where
-  pub clause : List Literal
-  pub live : get table n ≡ Some clause
-  pub same : IsTrue (same_literals lits clause)
-
 -- the list has two different literals
 pub record HasTwo (lits : List Literal) : Type 0 where
   pub first : Literal

@@ -2,14 +2,13 @@
 ghost use Rattle.std.specs.Prelude.{◌≡◌, ℕ, ◌+◌, ◌-◌, ◌<◌, ◌≤◌, [], ◌∷◌, ◌++◌, List, length, get_or, IfOk, IfSome, OnOk, OnErr, IsFalse};
 ghost use Rattle.cx_base.specs.Assumptions.{assumes};
 ghost use Rattle.cx_base.specs.Literals.{Literal, negate};
-ghost use Rattle.cx_trail.specs.declared.entry.Reason.TheVariants.{Clause};
-ghost use Rattle.cx_trail.specs.Sequence.{entry_at, IsTrueIn};
+ghost use Rattle.cx_trail.specs.Sequence.{entry_at};
 ghost use Rattle.clause_arena.specs.Clauses.{IsLive, id_at, literals_at};
 ghost use Rattle.conflict_learn.specs.Learning.{HasReason, IsAntecedent};
 ghost use Rattle.parity_engine.specs.State.{State};
 ghost use Rattle.cdcl_search.specs.Calls.{StandsOn};
 ghost use Rattle.cdcl_search.specs.Explaining.{IsReasonOf};
-ghost use Rattle.cdcl_search.specs.Sources.{IsSourced, IsSourcedBy, HasIds, IsHinted, IsApartByRow, RowsAreApart};
+ghost use Rattle.cdcl_search.specs.Sources.{IsSourcedBy, HasIds, IsHinted, IsApartByRow, RowsAreApart};
 ghost use Rattle.cdcl_search.specs.Tells.{IsId};
 ghost use Rattle.cdcl_search.specs.Ties.{SearchStands, HaveReasons, first_row_id};
 ghost use Rattle.cdcl_search.specs.Logs.{GoesOn, HasNotFailed, Stands};
@@ -66,47 +65,20 @@ pub fn stored(
     })
 }
 
-/// The literals of the clause of the arena that implied a literal.
-fn lent(state: &SearchState, reason: Reason, literal: Lit) -> Option<&[Lit]>
+/// The literals of the clause of the arena that implied a literal, and its id.
+fn lent(state: &SearchState, reason: Reason, literal: Lit) -> Option<(&[Lit], u64)>
     requires reason { HasReason state.now.trail literal reason }
     requires reasons { (e : State) × HaveReasons state.now e }
-    ensures sourced { IfSome result (λ c. (rows : List (List Literal)) → IsSourced state.now rows c.now) }
-    ensures implied { IfSome result (λ c. IsAntecedent state.now.trail literal c.now) }
+    ensures sourced { IfSome result (λ c. (rows : List (List Literal)) → IsSourcedBy state.now rows c.0.now c.1) }
+    ensures implied { IfSome result (λ c. IsAntecedent state.now.trail literal c.0.now) }
 {
     let place = state.trail.place_of(literal.negate());
     match reason {
         Reason::Clause(reference) if place >= state.units.len() => {
-            Some(state.arena.lits(reference))
+            Some((state.arena.lits(reference), state.arena.id(reference)))
         }
         _ => None,
     }
-}
-
-/// The id of a clause of the arena.
-fn id_of(state: &SearchState, reason: Reason) -> Option<u64>
-    requires live { (r : ℕ) → reason ≡ Clause r → IsLive state.now.arena r }
-    requires ids { HasIds state.now }
-    ensures { IfSome result IsId }
-{
-    match reason {
-        Reason::Clause(reference) => Some(state.arena.id(reference)),
-        _ => None,
-    }
-}
-
-/// The id of the clause of the arena or of level 0 that implied a literal.
-pub fn silent_id(state: &SearchState, literal: Lit) -> Option<u64>
-    requires true_now { IsTrueIn state.now.trail.entries literal }
-    requires reasons { (e : State) × HaveReasons state.now e }
-    requires ids { HasIds state.now }
-    ensures { IfSome result IsId }
-{
-    let place = state.trail.place_of(literal.negate());
-    if place < state.units.len() {
-        return Some(state.units[place]);
-    }
-    let entry = state.trail.entry(place);
-    id_of(state, entry.reason)
 }
 
 /// The clause of the row that implied a literal of the trail, which contradicts no assumed one. It is told.
@@ -155,7 +127,7 @@ pub(crate) fn clause_of_reason<P: ParityEngine, L: Sink<Item = LogEvent>>(
     ensures sourced { IfOk result (λ h. IsSourcedBy state.now rows.new.items h.lits h.id) }
     ensures implied { IfOk result (λ h. IsAntecedent state.now.trail literal h.lits) }
     ensures id { IfOk result (λ h. IsId h.id) }
-    ensures grows { (clause : List Literal) → IsSourced state.now rows.old.items clause → IsSourced state.now rows.new.items clause }
+    ensures grows { (clause : List Literal) (n : ℕ) → IsSourcedBy state.now rows.old.items clause n → IsSourcedBy state.now rows.new.items clause n }
     ensures one { OnOk result (length rows.new.items ≤ length rows.old.items + 1) }
     ensures stands_on { StandsOn P.ParityEngine L.Sink log.old log.new state.now engine.now rows.new.items result }
 {
@@ -187,7 +159,7 @@ pub struct Source<'a, 'b, P, L> {
 impl<P: ParityEngine, L: Sink<Item = LogEvent>> Antecedents for Source<'_, '_, P, L> {
     ghost trail = { λ a. a.state.now.trail };
 
-    ghost holds = { λ a c. IsSourced a.state.now a.rows.now.items c };
+    ghost holds = { λ a c n. IsSourcedBy a.state.now a.rows.now.items c n };
 
     ghost ready = { λ a. SearchStands a.log.now.formula.now a.state.now (P.state a.engine.now) a.rows.now.items (L.items a.log.now.sink.now)
         × RowsAreApart a.log.now.formula.now.constraints a.state.now.trail a.below × HasNotFailed L.Sink a.log.now };
@@ -206,11 +178,11 @@ impl<P: ParityEngine, L: Sink<Item = LogEvent>> Antecedents for Source<'_, '_, P
 
     ghost goes_on_then = { λ a b c why h k. (loans_then a b c h.0 k.0, log_then _ L.keeps_on a.log.now b.log.now c.log.now why h.1 k.1) };
 
-    fn look(&self, reason: Reason, literal: Lit) -> Option<&[Lit]> {
+    fn look(&self, reason: Reason, literal: Lit) -> Option<(&[Lit], u64)> {
         lent(self.state, reason, literal)
     }
 
-    fn clause_of(&mut self, reason: Reason, literal: Lit) -> Result<LitList, CoreFault> {
+    fn clause_of(&mut self, reason: Reason, literal: Lit) -> Result<(LitList, u64), CoreFault> {
         let hinted = clause_of_reason(
             self.log,
             self.state,
@@ -219,6 +191,6 @@ impl<P: ParityEngine, L: Sink<Item = LogEvent>> Antecedents for Source<'_, '_, P
             literal,
             self.rows,
         )?;
-        Ok(hinted.lits)
+        Ok((hinted.lits, hinted.id))
     }
 }

@@ -45,7 +45,7 @@ nothing_left u [] h = refl
 nothing_left u (m ∷ ms) h = let q = and_parts (has_literal u (negate m)) _ h in ap (λ b. cond (not b) (m ∷ left u ms) (left u ms)) q.0 ∙ nothing_left u ms q.1
 
 -- a list of equal literals counts as none or one
-goes : (lits : List Literal) (l : Literal) (next : Literal → ChainEnd) → list_all (same_literal l) lits ≡ true → next l ≡ right → go_on (count_left lits) next ≡ right
+pub goes : (lits : List Literal) (l : Literal) (next : Literal → ChainEnd) → list_all (same_literal l) lits ≡ true → next l ≡ right → go_on (count_left lits) next ≡ right
 goes [] l next h k = refl
 goes (m ∷ ms) l next h k =
     let n : m ∷ ms ≢ [] = λ e. cc in

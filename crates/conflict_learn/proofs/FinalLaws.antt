@@ -8,16 +8,17 @@ use Rattle.cx_base.proofs.Elements.{all_push}
 use Rattle.cx_semantics.specs.Chain.{has_literal}
 use Rattle.cx_semantics.proofs.Members.{has_at_head, has_left, has_right, has_either, has_pushed}
 use Rattle.cx_trail.specs.Sequence.{TrailState, IsTrail, IsFalseBefore}
+use Rattle.conflict_learn.specs.declared.learning.Resolved.{Resolved}
 use Rattle.conflict_learn.specs.Final.{IsFinal, StandsBelow, IsDecidedAt, kept_in}
 use Rattle.conflict_learn.specs.Learning.{literal_at, negated_at, has_place, skips, AreHeld, IsAntecedent, IsFalling, Follows}
-use Rattle.conflict_learn.specs.Marks.{is_marked, StandBetween}
+use Rattle.conflict_learn.specs.Marks.{is_marked}
 use Rattle.conflict_learn.specs.Touching.{Touched, IsLastMarked}
 use Rattle.conflict_learn.proofs.AnalyseLaws.{place_pushed, place_kept, place_last, negated_has, negated_from, follows_more, follows_held, follows_resolved, falling_push, AllByRecursion-weaker}
 use Rattle.conflict_learn.proofs.ChainOfResolutions.{by_cases, conflict_serves}
 use Rattle.conflict_learn.proofs.MarkLaws.{var_of, marked_below, below_has, below_from, below_cut, cleared_below}
 
 -- how far it has come: what is left so far, and the places still to be looked at
-pub record Tracing (trail : TrailState) (below : ℕ) (kept : Option Literal) (clause : List Literal) (holds : List Literal → Type 0) (resolved lits : List Literal) (keys : List ℕ) : Type 0 where
+pub record Tracing (trail : TrailState) (below : ℕ) (kept : Option Literal) (clause : List Literal) (holds : List Literal → ℕ → Type 0) (resolved : List Resolved) (lits : List Literal) (keys : List ℕ) : Type 0 where
   pub places : List ℕ
   pub are : lits ≡ kept_in kept ++ negated_at trail places
   pub falling : IsFalling places
@@ -42,7 +43,7 @@ module _ (trail : TrailState) (below : ℕ) (kept : Option Literal) (clause : Li
       (λ e. has_left (kept_in kept) (negated_at trail keys) m (kept_has kept m e))
       (λ e. let r = has m h e in by_key (kept_in kept) keys m r.0 r.1 r.2)
 
-  pub tracing_begins : (holds : List Literal → Type 0) (old marks : List Bool) → Touched kept old marks clause
+  pub tracing_begins : (holds : List Literal → ℕ → Type 0) (old marks : List Bool) → Touched kept old marks clause
       → ((m : Literal) → has_literal clause m ≡ true → skips kept m ≡ false → IsFalseBefore trail.entries below m) → Tracing trail below kept clause holds [] (kept_in kept) (marked_below trail marks below)
   tracing_begins holds old marks t all_false = record {
     places = [];
@@ -57,7 +58,7 @@ module _ (trail : TrailState) (below : ℕ) (kept : Option Literal) (clause : Li
         ([], tt, conflict_serves clause);
   }
 
-  module _ (holds : List Literal → Type 0) (resolved lits : List Literal) (keys : List ℕ) (p : ℕ) (a : Tracing trail below kept clause holds resolved lits (keys ++ p ∷ [])) (max_place : (q : ℕ) → has_place keys q ≡ true → q < p) where
+  module _ (holds : List Literal → ℕ → Type 0) (resolved : List Resolved) (lits : List Literal) (keys : List ℕ) (p : ℕ) (a : Tracing trail below kept clause holds resolved lits (keys ++ p ∷ [])) (max_place : (q : ℕ) → has_place keys q ≡ true → q < p) where
     decided_members : (m : Literal) → has_literal (lits ++ negated_at trail (keys ++ p ∷ [])) m ≡ true → has_literal ((lits ++ negate (literal_at trail p) ∷ []) ++ negated_at trail keys) m ≡ true
     decided_members m h = elim (has_either lits (negated_at trail (keys ++ p ∷ [])) m h) [
       | inl g ↦ has_left (lits ++ negate (literal_at trail p) ∷ []) (negated_at trail keys) m (has_left lits (negate (literal_at trail p) ∷ []) m g)
@@ -81,11 +82,11 @@ module _ (trail : TrailState) (below : ℕ) (kept : Option Literal) (clause : Li
       follows = follows_more trail clause holds resolved (lits ++ negated_at trail (keys ++ p ∷ [])) ((lits ++ negate (literal_at trail p) ∷ []) ++ negated_at trail keys) decided_members a.follows;
     }
 
-    pub tracing_resolves : (after : List Literal → Type 0) (new : List ℕ) (implying : List Literal) → AreHeld holds after → after implying → IsAntecedent trail (literal_at trail p) implying
+    pub tracing_resolves : (after : List Literal → ℕ → Type 0) (new : List ℕ) (implying : List Literal) (n : ℕ) → AreHeld holds after → after implying n → IsAntecedent trail (literal_at trail p) implying
         → ((q : ℕ) → has_place keys q ≡ true → has_place new q ≡ true) → ((q : ℕ) → has_place new q ≡ true → q < p)
         → ((m : Literal) → has_literal implying m ≡ true → same_literal (literal_at trail p) m ≡ false → (q : ℕ) × (has_place new q ≡ true) × (literal_at trail q ≡ negate m))
-        → Tracing trail below kept clause after (resolved ++ literal_at trail p ∷ []) lits new
-    tracing_resolves after new implying held_on k implied still low others = record {
+        → Tracing trail below kept clause after (resolved ++ record { literal = literal_at trail p; id = n } ∷ []) lits new
+    tracing_resolves after new implying n held_on k implied still low others = record {
       places = a.places;
       are = a.are;
       falling = a.falling;
@@ -93,7 +94,7 @@ module _ (trail : TrailState) (below : ℕ) (kept : Option Literal) (clause : Li
       decided = a.decided;
       lower = λ q h. let less = low q h in AllByRecursion-weaker (λ x. p < x) (λ x. q < x) (λ x above_p. omega (arith, less, above_p)) a.places (a.lower p (place_last keys p));
       within = λ q h. let less = low q h in let b = a.within p (place_last keys p) in omega (arith, less, b);
-      follows = follows_resolved trail clause after resolved (lits ++ negated_at trail (keys ++ p ∷ [])) implying (literal_at trail p) (lits ++ negated_at trail new) k implied
+      follows = follows_resolved trail clause after resolved (lits ++ negated_at trail (keys ++ p ∷ [])) implying (record { literal = literal_at trail p; id = n }) (lits ++ negated_at trail new) k implied
           (record { from_clause = λ m h n. let r = others m h n in by_key lits new m r.0 r.1 r.2; from_old = from_old }) (follows_held trail clause holds after resolved (lits ++ negated_at trail (keys ++ p ∷ [])) held_on a.follows);
     }
       where
@@ -106,7 +107,7 @@ module _ (trail : TrailState) (below : ℕ) (kept : Option Literal) (clause : Li
           ]
         ]
 
-  pub tracing_ends : (holds : List Literal → Type 0) (resolved lits : List Literal) → Tracing trail below kept clause holds resolved lits [] → IsFinal trail below kept clause holds resolved lits
+  pub tracing_ends : (holds : List Literal → ℕ → Type 0) (resolved : List Resolved) (lits : List Literal) → Tracing trail below kept clause holds resolved lits [] → IsFinal trail below kept clause holds resolved lits
   tracing_ends holds resolved lits a = record {
     places = a.places;
     are = a.are;
@@ -124,7 +125,7 @@ module _ (trail : TrailState) (levels : IsTrail trail) (below : ℕ) (kept : Opt
       let less = last.below in
       below_cut trail marks from p last.below last.marked last.others ∙ ap (λ ks. ks ++ p ∷ []) (cleared_below trail levels marks p (omega (arith, less, bound)))
 
-  module _ (holds : List Literal → Type 0) (resolved lits : List Literal) (marks : List Bool) (p : ℕ) (within : p < length trail.entries)
+  module _ (holds : List Literal → ℕ → Type 0) (resolved : List Resolved) (lits : List Literal) (marks : List Bool) (p : ℕ) (within : p < length trail.entries)
       (a : Tracing trail below kept clause holds resolved lits (marked_below trail marks p ++ p ∷ [])) where
     low : (q : ℕ) → has_place (marked_below trail marks p) q ≡ true → q < p
     low q h = (below_from trail marks p q h).0
@@ -132,9 +133,9 @@ module _ (trail : TrailState) (levels : IsTrail trail) (below : ℕ) (kept : Opt
     pub traced_keeps : IsDecidedAt trail p → Tracing trail below kept clause holds resolved (lits ++ negate (literal_at trail p) ∷ []) (marked_below trail marks p)
     traced_keeps now = tracing_keeps trail below kept clause holds resolved lits (marked_below trail marks p) p a low now
 
-    pub traced_resolves : (after : List Literal → Type 0) (new : List Bool) (implying : List Literal) → AreHeld holds after → after implying → IsAntecedent trail (literal_at trail p) implying → Touched (Some (literal_at trail p)) marks new implying
-        → Tracing trail below kept clause after (resolved ++ literal_at trail p ∷ []) lits (marked_below trail new p)
-    traced_resolves after new implying held_on k implied t = tracing_resolves trail below kept clause holds resolved lits (marked_below trail marks p) p a low after (marked_below trail new p) implying held_on k implied
+    pub traced_resolves : (after : List Literal → ℕ → Type 0) (new : List Bool) (implying : List Literal) (n : ℕ) → AreHeld holds after → after implying n → IsAntecedent trail (literal_at trail p) implying → Touched (Some (literal_at trail p)) marks new implying
+        → Tracing trail below kept clause after (resolved ++ record { literal = literal_at trail p; id = n } ∷ []) lits (marked_below trail new p)
+    traced_resolves after new implying n held_on k implied t = tracing_resolves trail below kept clause holds resolved lits (marked_below trail marks p) p a low after (marked_below trail new p) implying n held_on k implied
         (λ q h. let r = below_from trail marks p q h in below_has trail new p q r.0 (t.keeps (var_of trail q) r.1))
         (λ q h. (below_from trail new p q h).0)
         (λ m h n. let f = (implied p within refl).others_false m h n in (f.0, below_has trail new p f.0 f.1 (ap (is_marked new) (ap (λ (y : Literal). y.variable) f.2) ∙ t.has m h n), f.2))

@@ -5,6 +5,7 @@ use Rattle.std.proofs.lemmas.List.{length-map}
 use Rattle.cx_base.specs.Literals.{Literal, negate}
 use Rattle.cx_base.specs.declared.literal.TheConstants.{MAX_VARIABLE}
 use Rattle.cx_trail.specs.Sequence.{TrailState, IsTrail}
+use Rattle.conflict_learn.specs.declared.learning.Resolved.{Resolved}
 use Rattle.conflict_learn.specs.Learning.{IsLearned, IsFalling, literal_at, level_at}
 use Rattle.conflict_learn.proofs.AnalyseLaws.{AllByRecursion-weaker}
 use Rattle.conflict_learn.specs.Levels.{ArePlacesOf, levels_at, NeverRises}
@@ -18,7 +19,7 @@ module _ (trail : TrailState) (levels : IsTrail trail) where
   never_rises [] f w = tt
   never_rises (p ∷ ps) f w = (lower p ps w.0 f.0, never_rises ps f.1 w.1)
 
-  pub places_of_learned : (conflict : List Literal) (holds : List Literal → Type 0) (resolved lits : List Literal) (l : IsLearned trail conflict holds resolved lits) → ArePlacesOf trail lits (l.first ∷ l.rest)
+  pub places_of_learned : (conflict : List Literal) (holds : List Literal → ℕ → Type 0) (resolved : List Resolved) (lits : List Literal) (l : IsLearned trail conflict holds resolved lits) → ArePlacesOf trail lits (l.first ∷ l.rest)
   places_of_learned conflict holds resolved lits l =
       let within : AllByRecursion (λ q. q < length trail.entries) (l.first ∷ l.rest) = (l.within, AllByRecursion-weaker (λ q. q < l.first) (λ q. q < length trail.entries) (λ q less. omega (arith, less, l.within)) l.rest l.falling.0) in
       record { are = l.are; within = within; never_rises = never_rises (l.first ∷ l.rest) l.falling within }
@@ -27,7 +28,7 @@ module _ (trail : TrailState) (levels : IsTrail trail) where
   falling_few p [] f = omega arith
   falling_few p (q ∷ ps) f = let less = f.0.0 in let r = falling_few q ps f.1 in omega (arith, less, r)
 
-  pub learned_few : (conflict : List Literal) (holds : List Literal → Type 0) (resolved lits : List Literal) → IsLearned trail conflict holds resolved lits → length lits ≤ MAX_VARIABLE
+  pub learned_few : (conflict : List Literal) (holds : List Literal → ℕ → Type 0) (resolved : List Resolved) (lits : List Literal) → IsLearned trail conflict holds resolved lits → length lits ≤ MAX_VARIABLE
   learned_few conflict holds resolved lits l =
       let a = falling_few l.first l.rest l.falling in
       let n : length lits ≡ length (l.first ∷ l.rest) = ap length l.are ∙ length-map (l.first ∷ l.rest) (λ p. negate (literal_at trail p)) in

@@ -3,6 +3,7 @@ use Rattle.std.specs.Prelude.{◌≡◌, ℕ, ◌<◌, List, ◌∷◌, ◌++◌
 use Rattle.std.specs.List.{AllByRecursion}
 use Rattle.cx_base.specs.Literals.{Literal}
 use Rattle.cx_trail.specs.Sequence.{TrailState}
+use Rattle.conflict_learn.specs.declared.learning.Resolved.{Resolved}
 use Rattle.conflict_learn.specs.Learning.{level_at, negated_at, has_place, IsFalling, Follows}
 
 -- none is kept yet, and a place of the current level is left
@@ -20,7 +21,7 @@ pub record HasFound (trail : TrailState) (places keys : List ℕ) : Type 0 where
   pub rest_levels : AllByRecursion (λ q. (0 < level_at trail q) × (level_at trail q < trail.level)) rest
   pub lower : (q : ℕ) → IsTrue (has_place keys q) → level_at trail q < trail.level
 
-pub record Analysing (trail : TrailState) (conflict : List Literal) (holds : List Literal → Type 0) (resolved lits : List Literal) (keys : List ℕ) : Type 0 where
+pub record Analysing (trail : TrailState) (conflict : List Literal) (holds : List Literal → ℕ → Type 0) (resolved : List Resolved) (lits : List Literal) (keys : List ℕ) : Type 0 where
   pub places : List ℕ
   pub are : lits ≡ negated_at trail places
   pub falling : IsFalling places

@@ -9,7 +9,8 @@ use Rattle.cx_base.proofs.Elements.{all_push}
 use Rattle.cx_semantics.specs.Chain.{has_literal}
 use Rattle.cx_semantics.proofs.Members.{has_at_head, has_left, has_right, has_pushed}
 use Rattle.cx_trail.specs.Sequence.{TrailState, IsTrail, IsFalseIn, IsTrueIn}
-use Rattle.conflict_learn.specs.Learning.{literal_at, level_at, has_place, IsFalling, IsAntecedent, AreHeld}
+use Rattle.conflict_learn.specs.declared.learning.Resolved.{Resolved}
+use Rattle.conflict_learn.specs.Learning.{literal_at, level_at, has_place, IsFalling, IsAntecedent, AreHeld, literals_of}
 use Rattle.conflict_learn.specs.Marks.{is_marked, StandBetween}
 use Rattle.conflict_learn.specs.Touching.{Touched, IsLastMarked, NoneIsMarked, is_met, AreTouched}
 use Rattle.conflict_learn.proofs.ChainOfResolutions.{by_cases}
@@ -131,7 +132,11 @@ module _ (trail : TrailState) (levels : IsTrail trail) (resolved lits : List Lit
       (or_right (there p) (has_literal new (literal_at trail p)) (has_right resolved (literal_at trail p ∷ []) _ (has_at_head (literal_at trail p) [])))
       t more is
 
--- ---- the resolved literals are true
+-- ---- the resolved literals
+pub one_more_resolved : (resolved more : List Resolved) (l : Literal) (n : ℕ) → more ≡ resolved ++ record { literal = l; id = n } ∷ [] → literals_of more ≡ literals_of resolved ++ l ∷ []
+one_more_resolved resolved more l n is = ap literals_of is ∙ map-append (λ (r : Resolved). r.literal) resolved (record { literal = l; id = n } ∷ [])
+
+-- they are true
 pub true_more : (trail : TrailState) (resolved : List Literal) (p : ℕ) → p < length trail.entries → ((m : Literal) → has_literal resolved m ≡ true → IsTrueIn trail.entries m)
     → (m : Literal) → has_literal (resolved ++ literal_at trail p ∷ []) m ≡ true → IsTrueIn trail.entries m
 true_more trail resolved p within old m h = elim (has_pushed resolved (literal_at trail p) m h) [
@@ -141,7 +146,7 @@ true_more trail resolved p within old m h = elim (has_pushed resolved (literal_a
 
 -- ---- the analysis over marks
 module _ (trail : TrailState) (levels : IsTrail trail) (conflict : List Literal) (above : 0 < trail.level) where
-  pub visiting_begins : (holds : List Literal → Type 0) (old marks : List Bool) → Touched None old marks conflict → ((m : Literal) → has_literal conflict m ≡ true → IsFalseIn trail.entries m)
+  pub visiting_begins : (holds : List Literal → ℕ → Type 0) (old marks : List Bool) → Touched None old marks conflict → ((m : Literal) → has_literal conflict m ≡ true → IsFalseIn trail.entries m)
       → (m : Literal) → has_literal conflict m ≡ true → ((q : ℕ) → q < length trail.entries → literal_at trail q ≡ negate m → level_at trail q ≡ trail.level)
       → Analysing trail conflict holds [] [] (marked_below trail marks (length trail.entries))
   visiting_begins holds old marks t all_false m in_it now =
@@ -156,7 +161,7 @@ module _ (trail : TrailState) (levels : IsTrail trail) (conflict : List Literal)
       let less = last.below in
       below_cut trail marks from p last.below last.marked last.others ∙ ap (λ ks. ks ++ p ∷ []) (cleared_below trail levels marks p (omega (arith, less, bound)))
 
-  module _ (holds : List Literal → Type 0) (resolved lits : List Literal) (marks : List Bool) (p : ℕ) (within : p < length trail.entries)
+  module _ (holds : List Literal → ℕ → Type 0) (resolved : List Resolved) (lits : List Literal) (marks : List Bool) (p : ℕ) (within : p < length trail.entries)
       (a : Analysing trail conflict holds resolved lits (marked_below trail marks p ++ p ∷ [])) (is_first : Bool) (first_is : is_first ≡ nat_eq (length lits) 0) where
     low : (q : ℕ) → has_place (marked_below trail marks p) q ≡ true → q < p
     low q h = (below_from trail marks p q h).0
@@ -166,10 +171,10 @@ module _ (trail : TrailState) (levels : IsTrail trail) (conflict : List Literal)
     visiting_keeps first later = analysing_keeps trail conflict levels above holds resolved lits (marked_below trail marks p) p a low is_first first_is
         (λ e q h. let r = below_from trail marks p q h in first e q r.0 r.1) later
 
-    pub visiting_resolves : (after : List Literal → Type 0) (new : List Bool) (clause : List Literal) → AreHeld holds after → after clause → IsAntecedent trail (literal_at trail p) clause → Touched (Some (literal_at trail p)) marks new clause
+    pub visiting_resolves : (after : List Literal → ℕ → Type 0) (new : List Bool) (clause : List Literal) (n : ℕ) → AreHeld holds after → after clause n → IsAntecedent trail (literal_at trail p) clause → Touched (Some (literal_at trail p)) marks new clause
         → (is_first ≡ true → (q : ℕ) × (q < p) × (is_marked marks (var_of trail q) ≡ true) × (level_at trail q ≡ trail.level))
-        → Analysing trail conflict after (resolved ++ literal_at trail p ∷ []) lits (marked_below trail new p)
-    visiting_resolves after new clause held_on k implied t more = analysing_resolves trail conflict levels above holds resolved lits (marked_below trail marks p) p a low after (marked_below trail new p) clause held_on k implied
+        → Analysing trail conflict after (resolved ++ record { literal = literal_at trail p; id = n } ∷ []) lits (marked_below trail new p)
+    visiting_resolves after new clause n held_on k implied t more = analysing_resolves trail conflict levels above holds resolved lits (marked_below trail marks p) p a low after (marked_below trail new p) clause n held_on k implied
         (λ q h. let r = below_from trail marks p q h in below_has trail new p q r.0 (t.keeps (var_of trail q) r.1))
         (λ q h. (below_from trail new p q h).0)
         (λ m h n. let f = (implied p within refl).others_false m h n in (f.0, below_has trail new p f.0 f.1 (ap (is_marked new) (ap (λ (y : Literal). y.variable) f.2) ∙ t.has m h n), f.2))

@@ -4,6 +4,7 @@ use Rattle.std.specs.List.{AllByRecursion}
 use Rattle.cx_base.specs.Literals.{Literal}
 use Rattle.cx_trail.specs.declared.entry.Reason.TheVariants.{Decision}
 use Rattle.cx_trail.specs.Sequence.{TrailState, StandsAt, entry_at}
+use Rattle.conflict_learn.specs.declared.learning.Resolved.{Resolved}
 use Rattle.conflict_learn.specs.Learning.{negated_at, level_at, IsFalling, Follows}
 
 -- the literal is on the trail below a place
@@ -20,7 +21,7 @@ kept_in None = []
 kept_in (Some l) = l ∷ []
 
 -- The kept literal, and after it the negations of literals that were decided below the place, from the newest to the oldest. It follows from the clause and those that implied the resolved literals.
-pub record IsFinal (trail : TrailState) (below : ℕ) (kept : Option Literal) (clause : List Literal) (holds : List Literal → Type 0) (resolved lits : List Literal) : Type 0 where
+pub record IsFinal (trail : TrailState) (below : ℕ) (kept : Option Literal) (clause : List Literal) (holds : List Literal → ℕ → Type 0) (resolved : List Resolved) (lits : List Literal) : Type 0 where
   pub places : List ℕ
   pub are : lits ≡ kept_in kept ++ negated_at trail places
   pub falling : IsFalling places

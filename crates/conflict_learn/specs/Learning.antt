@@ -8,6 +8,7 @@ use Rattle.cx_semantics.specs.Chain.{has_literal, is_inside, negations, right, c
 use Rattle.cx_trail.specs.declared.entry.Reason.{Reason}
 use Rattle.cx_trail.specs.declared.entry.Reason.TheVariants.{Decision}
 use Rattle.cx_trail.specs.Sequence.{TrailState, entry_at, IsFalseBefore}
+use Rattle.conflict_learn.specs.declared.learning.Resolved.{Resolved}
 
 -- the literal at a place of the trail, and its level
 abbrev pub literal_at : TrailState → ℕ → Literal
@@ -28,9 +29,9 @@ HasReason trail l reason = (p : ℕ) × (p < length trail.entries) × (literal_a
 abbrev pub negated_at : TrailState → List ℕ → List Literal
 negated_at trail places = map (λ p. negate (literal_at trail p)) places
 
--- what holds of a clause goes on to hold
-abbrev pub AreHeld : (List Literal → Type 0) → (List Literal → Type 0) → Type 0
-AreHeld old new = (clause : List Literal) → old clause → new clause
+-- what holds of a clause under an id goes on to hold
+abbrev pub AreHeld : (List Literal → ℕ → Type 0) → (List Literal → ℕ → Type 0) → Type 0
+AreHeld old new = (clause : List Literal) (n : ℕ) → old clause n → new clause n
 
 -- the clause implied the literal at the place: it has it, and its others are false below that place
 pub record Implied (trail : TrailState) (place : ℕ) (clause : List Literal) : Type 0 where
@@ -41,19 +42,27 @@ pub record Implied (trail : TrailState) (place : ℕ) (clause : List Literal) : 
 abbrev pub IsAntecedent : TrailState → Literal → List Literal → Type 0
 IsAntecedent trail l clause = (place : ℕ) → place < length trail.entries → literal_at trail place ≡ l → Implied trail place clause
 
--- one clause for each literal, in order: it is held, and it implied the literal
-abbrev pub AreAntecedents : TrailState → (List Literal → Type 0) → List Literal → List (List Literal) → Type 0
+-- the literals whose clauses were resolved
+abbrev pub literals_of : List Resolved → List Literal
+literals_of resolved = map (λ r. r.literal) resolved
+
+-- and the ids of these clauses
+abbrev pub ids_of : List Resolved → List ℕ
+ids_of resolved = map (λ r. r.id) resolved
+
+-- one clause for each resolved literal, in order: it is held under the id, and it implied the literal
+abbrev pub AreAntecedents : TrailState → (List Literal → ℕ → Type 0) → List Resolved → List (List Literal) → Type 0
 AreAntecedents trail holds [] [] = ⊤
 AreAntecedents trail holds [] (c ∷ cs) = ⊥
-AreAntecedents trail holds (l ∷ ls) [] = ⊥
-AreAntecedents trail holds (l ∷ ls) (c ∷ cs) = holds c × IsAntecedent trail l c × AreAntecedents trail holds ls cs
+AreAntecedents trail holds (r ∷ rs) [] = ⊥
+AreAntecedents trail holds (r ∷ rs) (c ∷ cs) = holds c r.id × IsAntecedent trail r.literal c × AreAntecedents trail holds rs cs
 
 -- under every set that negates the target, the clauses are a right chain
 abbrev pub Serves : List Literal → List (List Literal) → Type 0
 Serves target clauses = (assumed : List Literal) → IsTrue (is_inside (negations target) assumed) → chain assumed clauses ≡ right
 
 -- The clauses that implied the resolved literals, the last one's first, and then the conflict, are a right chain under every set that negates the literals.
-abbrev pub Follows : TrailState → List Literal → (List Literal → Type 0) → List Literal → List Literal → Type 0
+abbrev pub Follows : TrailState → List Literal → (List Literal → ℕ → Type 0) → List Resolved → List Literal → Type 0
 Follows trail conflict holds resolved lits = (clauses : List (List Literal)) × AreAntecedents trail holds (reverse resolved) clauses × Serves lits (clauses ++ conflict ∷ [])
 
 -- whether the literal is the one to be skipped
@@ -71,7 +80,7 @@ IsFalling [] = ⊤
 IsFalling (p ∷ ps) = AllByRecursion (λ q. q < p) ps × IsFalling ps
 
 -- The clause negates literals of the trail, from the newest to the oldest: one of the current level, then those of lower levels above 0. It follows from the conflict and the clauses that implied the resolved literals.
-pub record IsLearned (trail : TrailState) (conflict : List Literal) (holds : List Literal → Type 0) (resolved lits : List Literal) : Type 0 where
+pub record IsLearned (trail : TrailState) (conflict : List Literal) (holds : List Literal → ℕ → Type 0) (resolved : List Resolved) (lits : List Literal) : Type 0 where
   pub first : ℕ
   pub rest : List ℕ
   pub are : lits ≡ negated_at trail (first ∷ rest)

@@ -3,6 +3,7 @@ use Rattle.std.specs.Prelude.{◌≡◌, ℕ, ◌<◌, ◌≤◌, List, [], ◌�
 use Rattle.std.specs.List.{AllByRecursion}
 use Rattle.cx_base.specs.Literals.{Literal}
 use Rattle.cx_trail.specs.Sequence.{TrailState}
+use Rattle.conflict_learn.specs.declared.learning.Resolved.{Resolved}
 use Rattle.conflict_learn.specs.Learning.{level_at, negated_at, has_place, IsLearned}
 
 -- each number once
@@ -31,7 +32,7 @@ pub record ArePlacesOf (trail : TrailState) (lits : List Literal) (places : List
   pub never_rises : NeverRises (levels_at trail places)
 
 -- the clause is learned, the back level is that of its second literal, and the number is that of its levels
-pub record Teaches (trail : TrailState) (conflict : List Literal) (holds : List Literal → Type 0) (resolved lits : List Literal) (back lbd : ℕ) : Type 0 where
+pub record Teaches (trail : TrailState) (conflict : List Literal) (holds : List Literal → ℕ → Type 0) (resolved : List Resolved) (lits : List Literal) (back lbd : ℕ) : Type 0 where
   pub learned : IsLearned trail conflict holds resolved lits
   pub back_is : back ≡ second (levels_at trail (learned.first ∷ learned.rest))
   pub lbd_is : lbd ≡ length (distinct (levels_at trail (learned.first ∷ learned.rest)))

@@ -6,12 +6,12 @@ ghost use Rattle.cx_trail.specs.declared.entry.Reason.TheVariants.{Decision};
 ghost use Rattle.cx_trail.specs.Sequence.{IsFalseBefore};
 ghost use Rattle.conflict_learn.specs.Faults.{CountsAs, fault_in};
 ghost use Rattle.conflict_learn.specs.Final.{IsFinal, StandsBelow};
-ghost use Rattle.conflict_learn.specs.Learning.{AreHeld, skips};
+ghost use Rattle.conflict_learn.specs.Learning.{AreHeld, literals_of, skips};
 ghost use Rattle.conflict_learn.specs.Marks.{AreClear};
 
 use crate::antecedents::Antecedents;
 use crate::fault::CoreFault;
-use crate::learning::{Gathered, resolve};
+use crate::learning::{Gathered, Resolved, resolve};
 use crate::marks::Marks;
 use crate::touching::{last_marked, touch};
 use cx_base::{Lit, LitList};
@@ -24,7 +24,7 @@ pub struct Final {
     /// The kept literal, where there is one, and then the negations of decided literals, from the newest to the oldest.
     pub lits: LitList,
     /// The literals whose clauses were resolved, in this order. These clauses, the last one first, and then the clause itself are a right chain.
-    pub resolved: LitList,
+    pub resolved: Vec<Resolved>,
 }
 
 // Whether the literal was decided.
@@ -37,11 +37,11 @@ fn is_decided(entry: &Entry) -> bool
 
 fn into_final(gathered: Gathered) -> Final
     ensures lits { result.lits ≡ gathered.lits.items }
-    ensures resolved { result.resolved ≡ gathered.resolved.items }
+    ensures resolved { result.resolved.items ≡ gathered.resolved.items }
 {
     Final {
         lits: LitList::from_vec(gathered.lits),
-        resolved: LitList::from_vec(gathered.resolved),
+        resolved: gathered.resolved,
     }
 }
 
@@ -67,8 +67,8 @@ pub fn analyse_final<S: Antecedents>(
     requires clear { AreClear marks.old }
     ensures trail { S.trail source.new ≡ S.trail source.old }
     ensures held { AreHeld (S.holds source.old) (S.holds source.new) }
-    ensures left { IfOk result (λ r. IsFinal trail.now below kept.now clause.now (S.holds source.new) r.resolved r.lits) }
-    ensures stand { IfOk result (λ r. (l : Literal) → IsTrue (has_literal r.resolved l) → StandsBelow trail.now below l) }
+    ensures left { IfOk result (λ r. IsFinal trail.now below kept.now clause.now (S.holds source.new) r.resolved.items r.lits) }
+    ensures stand { IfOk result (λ r. (l : Literal) → IsTrue (has_literal (literals_of r.resolved.items) l) → StandsBelow trail.now below l) }
     ensures clear { OnOk result (AreClear marks.new) }
     ensures ready { OnOk result (S.ready source.new) }
     ensures faults { CountsAs (fault_in result) (S.faults source.old) (S.faults source.new) }
@@ -85,8 +85,9 @@ pub fn analyse_final<S: Antecedents>(
         if is_decided(&entry) {
             gathered.keep(&entry)?;
         } else {
-            gathered.add_resolved(&entry)?;
-            lowest = resolve(trail, marks, source, place, lowest)?;
+            let (id, lower) = resolve(trail, marks, source, place, lowest)?;
+            lowest = lower;
+            gathered.add_resolved(&entry, id)?;
         }
     }
     Ok(into_final(gathered))

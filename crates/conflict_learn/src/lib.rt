@@ -13,5 +13,5 @@ mod touching;
 pub use antecedents::Antecedents;
 pub use fault::CoreFault;
 pub use final_analysis::{Final, analyse_final};
-pub use learning::{Learned, analyse};
+pub use learning::{Learned, Resolved, analyse};
 pub use marks::Marks;

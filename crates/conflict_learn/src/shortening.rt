@@ -56,14 +56,14 @@ pub(crate) fn is_redundant<S: Antecedents>(
     requires wide { trail.now.variables < length marks.now }
     requires place { place < length trail.now.entries }
     ensures forced { IsTrue result → (entry_at trail.now.entries place).reason ≢ Decision }
-    ensures covered { IsTrue result → (clause : List Literal) × S.holds source.now clause × IsAntecedent trail.now (literal_at trail.now place) clause × IsCovered trail.now marks.now (literal_at trail.now place) clause }
+    ensures covered { IsTrue result → (clause : List Literal) × (n : ℕ) × S.holds source.now clause n × IsAntecedent trail.now (literal_at trail.now place) clause × IsCovered trail.now marks.now (literal_at trail.now place) clause }
 {
     let entry = trail.entry(place);
     if matches!(entry.reason, Reason::Decision) {
         return false;
     }
     match source.look(entry.reason, entry.literal) {
-        Some(clause) => is_covered(trail, marks, entry.literal, clause),
+        Some((clause, _)) => is_covered(trail, marks, entry.literal, clause),
         None => false,
     }
 }

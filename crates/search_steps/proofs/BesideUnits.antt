@@ -1,5 +1,5 @@
 -- Unit clauses of the negated literals of a clause that is not told: chains that pass through it show them.
-use Rattle.std.proofs.Common.{◌≡◌, refl, sym, ap, ◌∙◌, subst, ℕ, ℤ, Bool, true, false, not, cond, nat_eq, ◌||◌, MatchBool, List, [], ◌∷◌, ◌++◌, Some, None, is_some, ◌⊎◌, inl, inr, true≢false, arith}
+use Rattle.std.proofs.Common.{◌≡◌, refl, sym, ap, ◌∙◌, subst, ℕ, ℤ, Bool, true, false, not, cond, nat_eq, ◌||◌, MatchBool, List, [], ◌∷◌, is_some, ◌⊎◌, inl, inr, true≢false, arith}
 use Rattle.std.specs.List.{AllByRecursion, list_any, list_all}
 use Rattle.std.proofs.lemmas.Bool.{and_parts, and_from, or_parts, or_left, or_right, or_cases}
 use Rattle.std.proofs.Math.Bool.{and-false}
@@ -11,16 +11,17 @@ use Rattle.cx_base.specs.declared.steps.LogStep.TheVariants.{ClauseWithHints}
 use Rattle.cx_base.proofs.LiteralLaws.{negate-negate, are_one, same_literal-itself}
 use Rattle.cx_semantics.specs.Chain.{has_literal, is_inside, left, Left, none, one, more, count_left, go_on, right, not_unit, hints_end, chain}
 use Rattle.cx_semantics.specs.Fresh.{KeepsUnits, FalsifiesNone, IsLive, is_falsified, is_tautology}
-use Rattle.cx_semantics.specs.LogRules.{HasChain, derives_ending_clause}
+use Rattle.cx_semantics.specs.LogRules.{derives_ending_clause}
 use Rattle.cx_semantics.specs.Marked.{IsLearned, IsKnown}
-use Rattle.cx_semantics.specs.Tables.{Table, get, is_live}
-use Rattle.cx_semantics.proofs.Closure.{has_by_inside, left_under, falsified-left, left_nil, none_left, all_are, some_are, one_in, left_open, left_has, no_chain, chain_or_closed}
+use Rattle.cx_semantics.specs.Tables.{Table}
+use Rattle.cx_semantics.proofs.Closure.{left_under, falsified-left, left_nil, none_left, all_are, some_are, one_in, left_open, left_has, no_chain}
 use Rattle.cx_semantics.proofs.Members.{has_at_head, has_behind, has_split}
 use Rattle.cx_semantics.proofs.SameSets.{AllSame, HaveSame-by_test, chain_same}
 use Rattle.conflict_learn.proofs.ChainOfResolutions.{by_cases}
+use Rattle.search_steps.specs.Hints.{AreHintsFor}
 use Rattle.search_steps.specs.LogSteps.{IsAddition}
 use Rattle.search_steps.specs.Search.{Search, IsSearch, told}
-use Rattle.search_steps.specs.Tied.{IsLiveSet, IsLiveOr}
+use Rattle.search_steps.specs.Tied.{IsLiveOr}
 use Rattle.search_steps.proofs.LogLaws.{IsReached, reached_is_known, step_goes_on}
 use Rattle.search_steps.proofs.ServesLaws.{put_serves}
 use Rattle.search_steps.proofs.Sets.{not_both}
@@ -162,14 +163,6 @@ module _ (table : Table) (c : List Literal) (clauses : List (List Literal)) (are
   shows : (assumed : List Literal) → chain assumed r.chosen ≡ right
   shows assumed = sym (chain_same clauses r.chosen assumed assumed r.same (λ l. refl)) ∙ serves assumed
 
-  pub beside_has_chain : HasChain table (negate x ∷ [])
-  beside_has_chain = elim (chain_or_closed table (negate x ∷ [])) [
-    | inl h ↦ h
-    | inr k ↦
-        let in_u : has_literal k.u x ≡ true = ap (has_literal k.u) (sym (negate-negate x)) ∙ (and_parts (has_literal k.u (negate (negate x))) true k.has_assumed).0 in
-        absurd (passes (IsLive table) k.u k.units k.no_conflict c x has in_u r.chosen (x ∷ []) (and_from _ _ in_u refl) (has_at_head x []) (apart x) (all_live table c r.chosen r.are) (shows (x ∷ [])))
-  ]
-
   pub beside_is_known : IsInLive table (negate x) ⊎ IsReached table (negate x)
   beside_is_known = elim (some_or_all table c (negate x) r.chosen r.are) [
     | inl w ↦ inl w
@@ -178,23 +171,24 @@ module _ (table : Table) (c : List Literal) (clauses : List (List Literal)) (are
   ]
 
 -- such a unit clause keeps the search, where no level is quiet
-pub beside_unit_keeps : (formula : Problem) (parities : List (List Literal)) (s : Search) → IsSearch formula parities s → s.quiet_levels ≡ 0 → (n : ℕ) (z : ℤ) (hints : List ℤ) → IsAddition formula s.moment.tables.clauses n (z ∷ [])
+pub beside_unit_keeps : (formula : Problem) (parities : List (List Literal)) (s : Search) → IsSearch formula parities s → s.quiet_levels ≡ 0 → (n : ℕ) (z : ℤ) (hints : List ℤ) → IsAddition formula s.moment.tables.clauses n (z ∷ []) → AreHintsFor s.moment.tables.clauses (literal z ∷ []) hints
     → derives_ending_clause formula (ClauseWithHints n (z ∷ []) hints) ≡ false → s.moment.awaits ≡ false
     → (c : List Literal) (clauses : List (List Literal)) → AllByRecursion (IsLiveOr s.moment.tables.clauses c) clauses → ((assumed : List Literal) → chain assumed clauses ≡ right)
     → has_literal c (negate (literal z)) ≡ true → IsSearch formula parities (told s (Step (ClauseWithHints n (z ∷ []) hints)))
-beside_unit_keeps formula parities s ok level n z hints a goes served c clauses are serves has =
+beside_unit_keeps formula parities s ok level n z hints a hinted goes served c clauses are serves has =
     let l = literal z in
     let table = s.moment.tables.clauses in
     let back : negate (negate l) ≡ l = negate-negate l in
     record {
       log = step_goes_on formula s.events s.moment s.conflicts ok.log (ClauseWithHints n (z ∷ []) hints)
-          (a.within, (ap is_some a.free, (subst (λ m. HasChain table (m ∷ [])) back (beside_has_chain table c clauses are serves (negate l) has), tt)))
+          (a.within, (ap is_some a.free, ((hinted.ids, hinted.live, hinted.chain), tt)))
           goes
           (subst (λ b. MatchBool b (IsLearned s.moment (l ∷ [])) (derives_ending_clause formula (ClauseWithHints n (z ∷ []) hints) ≡ false → IsKnown s.moment (l ∷ []))) (sym served)
           (λ _. elim (beside_is_known table c clauses are serves (negate l) has) [
             | inl w ↦ inr (w.0, w.1, and_from _ _ (ap (has_literal w.0) (sym back) ∙ w.2) refl, w.3)
             | inr reached ↦ inl (refl, reached_is_known table l (subst (IsReached table) back reached))
           ]))
-          (λ k ys is among. cc);
+          (λ k ys is among. cc)
+          hinted;
       serves = put_serves formula parities s.trail s.quiet_levels s.moment.tables n (l ∷ []) a.free (λ k h. absurd (omega (arith, h, level))) ok.serves;
     }

@@ -14,7 +14,7 @@ use Rattle.cx_base.specs.Integers.{literals}
 use Rattle.cx_base.specs.Assumptions.{IsFailed}
 use Rattle.cx_semantics.specs.Chain.{negations}
 use Rattle.cx_semantics.specs.Judging.{IsRight, EndsAt}
-use Rattle.cx_semantics.specs.LogRules.{log_calculus, HasChain, derived_clause, derives_ending_clause}
+use Rattle.cx_semantics.specs.LogRules.{log_calculus, derived_clause, derives_ending_clause}
 use Rattle.cx_base.specs.Events.{steps_of, step_of}
 use Rattle.cx_semantics.specs.Marked.{Marked, StepFits, IsLearned, IsKnown, first_moment, after_event, mark_of}
 use Rattle.cx_semantics.specs.ProofRules.{all_met}
@@ -22,10 +22,12 @@ use Rattle.cx_semantics.specs.Tables.{get, named}
 use Rattle.cx_semantics.proofs.MarkedLaws.{events_go_on}
 use Rattle.cx_semantics.proofs.FailingLaws.{ended_steps_fail}
 use Rattle.cx_semantics.proofs.Soundness.{right_steps_are_unmet}
+use Rattle.search_steps.specs.Hints.{AreHintsFor, IsHinted, AreHinted}
 use Rattle.search_steps.specs.Search.{Search, IsSearch}
 use Rattle.search_steps.specs.LogSteps.{IsAddition, IsEnded, IsClauseOfRow}
 use Rattle.search_steps.specs.Schedule.{IsScheduled}
-use Rattle.search_steps.proofs.ScheduleLaws.{MayFollow, scheduled_then}
+use Rattle.search_steps.proofs.HintLaws.{step_is_hinted}
+use Rattle.search_steps.proofs.ScheduleLaws.{MayFollow, moment_is, scheduled_then}
 use Rattle.search_steps.proofs.LogLaws.{begins_still}
 
 -- a log that is right to its end shows that no values meet the formula
@@ -80,14 +82,24 @@ module _ (formula : Problem) (parities : List (List Literal)) (s : Search) (ok :
   pub row_clause_is_scheduled : (n : ℕ) (zs : List ℤ) (source : ℕ) → IsScheduled (s.events ++ Step (ClauseOfParity n zs source) ∷ [])
   row_clause_is_scheduled n zs source = last_step_is_scheduled (ClauseOfParity n zs source) (λ k ys is among. cc)
 
-  -- a clause by a right chain, while no clause is owed
-  pub chained_clause_ends : (n : ℕ) (zs hints : List ℤ) → IsAddition formula s.moment.tables.clauses n zs → HasChain s.moment.tables.clauses (literals zs) → derives_ending_clause formula (ClauseWithHints n zs hints) ≡ true
-      → IsEnded formula (s.events ++ Step (ClauseWithHints n zs hints) ∷ [])
-  chained_clause_ends n zs hints a has_chain ends = last_step_ends (ClauseWithHints n zs hints) (a.within, (ap is_some a.free, (has_chain, tt))) ends
+  -- and its hints are right
+  last_step_is_hinted : (step : LogStep) → IsHinted s.moment.tables step → AreHinted (s.events ++ Step step ∷ [])
+  last_step_is_hinted step right = step_is_hinted s.events s.moment (moment_is formula s.moment s.events ok.log.fits) step ok.log.hinted right
 
-  pub chained_clause_fails : (n : ℕ) (zs hints : List ℤ) → IsAddition formula s.moment.tables.clauses n zs → HasChain s.moment.tables.clauses (literals zs) → derives_ending_clause formula (ClauseWithHints n zs hints) ≡ true
+  pub chained_clause_is_hinted : (n : ℕ) (zs hints : List ℤ) → AreHintsFor s.moment.tables.clauses (literals zs) hints → AreHinted (s.events ++ Step (ClauseWithHints n zs hints) ∷ [])
+  chained_clause_is_hinted n zs hints right = last_step_is_hinted (ClauseWithHints n zs hints) right
+
+  pub row_clause_is_hinted : (n : ℕ) (zs : List ℤ) (source : ℕ) → AreHinted (s.events ++ Step (ClauseOfParity n zs source) ∷ [])
+  row_clause_is_hinted n zs source = last_step_is_hinted (ClauseOfParity n zs source) tt
+
+  -- a clause with right hints, while no clause is owed
+  pub chained_clause_ends : (n : ℕ) (zs hints : List ℤ) → IsAddition formula s.moment.tables.clauses n zs → AreHintsFor s.moment.tables.clauses (literals zs) hints → derives_ending_clause formula (ClauseWithHints n zs hints) ≡ true
+      → IsEnded formula (s.events ++ Step (ClauseWithHints n zs hints) ∷ [])
+  chained_clause_ends n zs hints a right ends = last_step_ends (ClauseWithHints n zs hints) (a.within, (ap is_some a.free, ((right.ids, right.live, right.chain), tt))) ends
+
+  pub chained_clause_fails : (n : ℕ) (zs hints : List ℤ) → IsAddition formula s.moment.tables.clauses n zs → AreHintsFor s.moment.tables.clauses (literals zs) hints → derives_ending_clause formula (ClauseWithHints n zs hints) ≡ true
       → IsFailed formula (negations (literals zs))
-  chained_clause_fails n zs hints a has_chain ends = last_step_fails (ClauseWithHints n zs hints) (a.within, (ap is_some a.free, (has_chain, tt))) ends
+  chained_clause_fails n zs hints a right ends = last_step_fails (ClauseWithHints n zs hints) (a.within, (ap is_some a.free, ((right.ids, right.live, right.chain), tt))) ends
 
   pub chained_clause_is_marked : (n : ℕ) (zs hints : List ℤ) → s.moment.awaits ≡ false → derives_ending_clause formula (ClauseWithHints n zs hints) ≡ true → Marked formula (s.events ++ Step (ClauseWithHints n zs hints) ∷ []) s.conflicts
   chained_clause_is_marked n zs hints served ends = last_step_is_marked (ClauseWithHints n zs hints)

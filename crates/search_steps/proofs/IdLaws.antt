@@ -9,7 +9,7 @@ use Rattle.cx_base.proofs.Elements.{all_append}
 use Rattle.cx_base.specs.declared.steps.LogStep.TheVariants.{ClauseWithHints, Parity, ClauseOfParity, ParityOfClauses, Delete}
 use Rattle.cx_base.specs.declared.steps.LogEvent.TheVariants.{Step}
 use Rattle.cx_base.specs.Integers.{literals}
-use Rattle.cx_semantics.specs.LogRules.{HasChain, derives_ending_clause}
+use Rattle.cx_semantics.specs.LogRules.{derives_ending_clause}
 use Rattle.cx_semantics.specs.Marked.{Moment, after_event, is_among, without}
 use Rattle.cx_semantics.specs.Tables.{Table, get}
 use Rattle.cx_semantics.proofs.Lookups.{Looks-insert, Looks-remove}
@@ -17,6 +17,7 @@ use Rattle.search_steps.specs.Trail.{Entry, rests_on, decided, by_clause, by_row
 use Rattle.search_steps.specs.Search.{Search, IsSearch, IsServed, IsLearnedOf, told, marked, decided_on, forced_on, jumped}
 use Rattle.search_steps.specs.LogSteps.{IsNoReason, IsAddition, AreTemporary, row_events, all_told, deleted, after_learned, after_round}
 use Rattle.search_steps.specs.Start.{IsBegun}
+use Rattle.search_steps.specs.Hints.{AreHintsFor}
 use Rattle.search_steps.specs.Ids.{ReasonsBelow, AreRowIds, IsRanged, HasFreeSums}
 use Rattle.conflict_learn.proofs.ChainOfResolutions.{by_cases}
 use Rattle.search_steps.proofs.Rounds.{round_keeps, round_clears_old, round_clears_new}
@@ -271,8 +272,8 @@ module _ (formula : Problem) (bound next row_next : ℕ) (s : Search) (i : IsRan
 
   -- so with ranges a round asks nothing more of ids
   pub ranged_round_keeps : (parities : List (List Literal)) → IsSearch formula parities s → (l : Literal) → IsServed s → s.quiet_levels ≡ level_of s.trail → IsAddition formula s.moment.tables.clauses n zs
-      → derives_ending_clause formula (ClauseWithHints n zs hints) ≡ false → HasChain s.moment.tables.clauses (literals zs) → IsLearnedOf s.trail back (literals zs) l → IsSearch formula parities (after_round s n zs hints back l)
-  ranged_round_keeps parities ok l served levels a goes has_chain learned = round_keeps formula parities s ok n zs hints back l served levels a goes has_chain learned
+      → derives_ending_clause formula (ClauseWithHints n zs hints) ≡ false → AreHintsFor s.moment.tables.clauses (literals zs) hints → IsLearnedOf s.trail back (literals zs) l → IsSearch formula parities (after_round s n zs hints back l)
+  ranged_round_keeps parities ok l served levels a goes right learned = round_keeps formula parities s ok n zs hints back l served levels a goes right learned
       (row_ids_are_temporary formula bound (n + 1) row_next (after_learned s n zs hints back) learned_ranged s.moment.new_clauses i.new_rows)
       (low_is_no_row formula bound next row_next s i n high)
 

@@ -1,61 +1,66 @@
--- What an analysis learned is what the calculus takes for a learned clause, and it has a right chain.
-use Rattle.std.proofs.Common.{◌≡◌, refl, sym, ap, ◌∙◌, subst, ℕ, ◌-◌, ◌<◌, ◌≤◌, true, false, List, [], ◌∷◌, ◌++◌, length, is_some, ◌⊎◌, inl, inr, arith}
+-- What an analysis learned is what the calculus takes for a learned clause, and its hints are right.
+use Rattle.std.proofs.Common.{◌≡◌, refl, sym, ap, ◌∙◌, subst, ℕ, ◌-◌, ◌<◌, ◌≤◌, pos, true, false, List, [], ◌∷◌, ◌++◌, length, is_some, ◌⊎◌, inl, inr, arith}
 use Rattle.std.specs.Prelude.{reverse}
 use Rattle.std.specs.List.{AllByRecursion, cons_option}
+use Rattle.std.proofs.lemmas.List.{map-append}
 use Rattle.cx_base.specs.Literals.{Literal, negate, same_literal}
 use Rattle.cx_base.proofs.LiteralLaws.{negate-negate, are_one, same_literal-itself}
 use Rattle.cx_semantics.specs.Chain.{has_literal}
-use Rattle.cx_semantics.specs.LogRules.{AreLive, HasChain}
+use Rattle.cx_semantics.specs.LogRules.{AreLive}
 use Rattle.cx_semantics.specs.Tables.{Table, named}
 use Rattle.cx_semantics.proofs.Closure.{has_by_inside}
 use Rattle.cx_semantics.proofs.SameSets.{HaveSame-by_test, AllSame, chain_stays_right}
 use Rattle.cx_semantics.proofs.Members.{has_at_head, has_behind, has_split}
 use Rattle.cx_trail.specs.Sequence.{TrailState, IsTrail as IsCodeTrail}
-use Rattle.conflict_learn.specs.Learning.{IsLearned, Follows, AreAntecedents, negated_at, level_at, literal_at, has_place, IsFalling}
+use Rattle.conflict_learn.specs.declared.learning.Resolved.{Resolved}
+use Rattle.conflict_learn.specs.Learning.{IsLearned, Follows, AreAntecedents, ids_of, negated_at, level_at, literal_at, has_place, IsFalling}
 use Rattle.conflict_learn.specs.Levels.{Teaches, second, levels_at}
 use Rattle.conflict_learn.proofs.ChainOfResolutions.{served_is_chain, by_cases}
 use Rattle.conflict_learn.proofs.AnalyseLaws.{negated_from, place_here, place_split}
 use Rattle.search_steps.specs.Trail.{Entry, held, all_held, level_of, IsTrail}
+use Rattle.search_steps.specs.Hints.{AreHintsFor, IsNamedBy, hints_from}
 use Rattle.search_steps.specs.Search.{IsLearnedOf}
-use Rattle.search_steps.specs.Tied.{IsTied, IsLiveSet}
+use Rattle.search_steps.specs.Tied.{IsTied}
 use Rattle.search_steps.proofs.Sets.{not_both}
 use Rattle.search_steps.proofs.TrailLaws.{held_inside}
 use Rattle.search_steps.proofs.Bridge.{to_held, not_yet_held, level_tied}
 
--- ---- a chain by live clauses names them
--- ids of live clauses with the same literals, one for each
-pub record AreNamed (table : Table) (clauses : List (List Literal)) : Type 0 where
-  pub ids : List ℕ
-  pub live : AreLive table ids
-  pub same : AllSame clauses (named table ids)
+-- ---- a chain by clauses under ids of live ones
+-- of each of these ids a clause is live, and these have the literals of the clauses
+abbrev pub AreNamed : Table → List (List Literal) → List ℕ → Type 0
+AreNamed table clauses ids = AreLive table ids × AllSame clauses (named table ids)
 
-pub all_named : (table : Table) (clauses : List (List Literal)) → AllByRecursion (IsLiveSet table) clauses → AreNamed table clauses
-all_named table [] h = record { ids = []; live = tt; same = tt }
-all_named table (c ∷ cs) ((clause, (n, e), s), h) =
-    let r = all_named table cs h in
-    record {
-      ids = n ∷ r.ids;
-      live = (ap is_some e, r.live);
-      same = subst (AllSame (c ∷ cs)) (sym (ap (λ o. cons_option o (named table r.ids)) e)) (HaveSame-by_test c clause s, r.same);
-    }
+named_then : (table : Table) (clause : List Literal) (n : ℕ) (clauses : List (List Literal)) (ids : List ℕ) → IsNamedBy table clause n → AreNamed table clauses ids → AreNamed table (clause ∷ clauses) (n ∷ ids)
+named_then table clause n clauses ids by rest = (
+  (ap is_some by.live, rest.0),
+  subst (AllSame (clause ∷ clauses)) (sym (ap (λ o. cons_option o (named table ids)) by.live)) (HaveSame-by_test clause by.clause by.same, rest.1),
+)
 
-sources_live : (table : Table) (trail : TrailState) (conflict : List Literal) (holds : List Literal → Type 0) → IsLiveSet table conflict → ((c : List Literal) → holds c → IsLiveSet table c)
-    → (ls : List Literal) (clauses : List (List Literal)) → AreAntecedents trail holds ls clauses → AllByRecursion (IsLiveSet table) (clauses ++ conflict ∷ [])
-sources_live table trail conflict holds now h [] [] a = (now, tt)
-sources_live table trail conflict holds now h [] (c ∷ cs) a = absurd a
-sources_live table trail conflict holds now h (l ∷ ls) [] a = absurd a
-sources_live table trail conflict holds now h (l ∷ ls) (c ∷ cs) a = (h c a.0, sources_live table trail conflict holds now h ls cs a.2)
+module _ (table : Table) (trail : TrailState) (holds : List Literal → ℕ → Type 0) (live : (c : List Literal) (k : ℕ) → holds c k → IsNamedBy table c k) where
+  pub all_named : (rs : List Resolved) (clauses : List (List Literal)) → AreAntecedents trail holds rs clauses → AreNamed table clauses (ids_of rs)
+  all_named [] [] a = (tt, tt)
+  all_named [] (c ∷ cs) a = absurd a
+  all_named (r ∷ rs) [] a = absurd a
+  all_named (r ∷ rs) (c ∷ cs) a = named_then table c r.id cs (ids_of rs) (live c r.id a.0) (all_named rs cs a.2)
 
-pub followed_has_chain : (table : Table) (trail : TrailState) (conflict : List Literal) (holds : List Literal → Type 0) (resolved lits : List Literal)
-    → IsLiveSet table conflict → ((c : List Literal) → holds c → IsLiveSet table c) → Follows trail conflict holds resolved lits → HasChain table lits
-followed_has_chain table trail conflict holds resolved lits now h f =
-    let clauses = f.0 ++ conflict ∷ [] in
-    let r = all_named table clauses (sources_live table trail conflict holds now h (reverse resolved) f.0 f.1) in
-    (r.ids, r.live, chain_stays_right lits lits clauses (named table r.ids) (λ l. refl) r.same (served_is_chain lits clauses f.2))
+  -- and after them the conflict
+  module _ (conflict : List Literal) (n : ℕ) (now : IsNamedBy table conflict n) where
+    named_to_conflict : (rs : List Resolved) (clauses : List (List Literal)) → AreAntecedents trail holds rs clauses → AreNamed table (clauses ++ conflict ∷ []) (ids_of rs ++ n ∷ [])
+    named_to_conflict [] [] a = named_then table conflict n [] [] now (tt, tt)
+    named_to_conflict [] (c ∷ cs) a = absurd a
+    named_to_conflict (r ∷ rs) [] a = absurd a
+    named_to_conflict (r ∷ rs) (c ∷ cs) a = named_then table c r.id (cs ++ conflict ∷ []) (ids_of rs ++ n ∷ []) (live c r.id a.0) (named_to_conflict rs cs a.2)
 
-pub learned_has_chain : (table : Table) (trail : TrailState) (conflict : List Literal) (holds : List Literal → Type 0) (resolved lits : List Literal)
-    → IsLiveSet table conflict → ((c : List Literal) → holds c → IsLiveSet table c) → IsLearned trail conflict holds resolved lits → HasChain table lits
-learned_has_chain table trail conflict holds resolved lits now h learned = followed_has_chain table trail conflict holds resolved lits now h learned.follows
+    pub followed_is_hinted : (resolved : List Resolved) (lits : List Literal) → Follows trail conflict holds resolved lits → AreHintsFor table lits (hints_from resolved ++ pos n ∷ [])
+    followed_is_hinted resolved lits f =
+        let ids = ids_of (reverse resolved) ++ n ∷ [] in
+        let r = named_to_conflict (reverse resolved) f.0 f.1 in
+        record {
+          ids = ids;
+          are = sym (map-append pos (ids_of (reverse resolved)) (n ∷ []));
+          live = r.0;
+          chain = chain_stays_right lits lits (f.0 ++ conflict ∷ []) (named table ids) (λ l. refl) r.1 (served_is_chain lits (f.0 ++ conflict ∷ []) f.2);
+        }
 
 -- ---- the clause
 below_first : (P : ℕ → Type 0) (ps : List ℕ) (q : ℕ) → AllByRecursion P ps → has_place ps q ≡ true → P q
@@ -79,7 +84,7 @@ second_is t first [] = refl
 second_is t first (q ∷ qs) = refl
 
 module _ (table : Table) (IsRow : List Literal → Type 0) (es : List Entry) (w : IsTrail table IsRow es) (t : TrailState) (ok : IsCodeTrail t) (tied : IsTied es t.entries) (above : 0 < t.level) where
-  places_are_learned : (conflict : List Literal) (holds : List Literal → Type 0) (resolved lits : List Literal) (learned : IsLearned t conflict holds resolved lits)
+  places_are_learned : (conflict : List Literal) (holds : List Literal → ℕ → Type 0) (resolved : List Resolved) (lits : List Literal) (learned : IsLearned t conflict holds resolved lits)
       → IsLearnedOf es (top_level t learned.rest) lits (negate (literal_at t learned.first))
   places_are_learned conflict holds resolved lits learned = record {
     lower = lower learned.rest learned.rest_levels;
@@ -134,7 +139,7 @@ module _ (table : Table) (IsRow : List Literal → Type 0) (es : List Entry) (w 
       )
 
   -- the clause that a conflict teaches is asserting by its first literal, above its back level
-  pub taught_is_learned : (conflict : List Literal) (holds : List Literal → Type 0) (resolved lits : List Literal) (back lbd : ℕ) → Teaches t conflict holds resolved lits back lbd
+  pub taught_is_learned : (conflict : List Literal) (holds : List Literal → ℕ → Type 0) (resolved : List Resolved) (lits : List Literal) (back lbd : ℕ) → Teaches t conflict holds resolved lits back lbd
       → (l : Literal) × (more : List Literal) × (lits ≡ l ∷ more) × IsLearnedOf es back lits l
   taught_is_learned conflict holds resolved lits back lbd teaches =
       let learned = teaches.learned in

@@ -26,4 +26,5 @@ pub mod RoundEnds
 pub mod Propagation
 pub mod Reasons
 pub mod ScheduleLaws
+pub mod HintLaws
 pub mod TidyLineLaws

@@ -3,7 +3,7 @@ use Rattle.std.proofs.Common.{◌≡◌, refl, sym, ap, ◌∙◌, subst, ℕ, z
 use Rattle.std.proofs.lemmas.List.Elements.{filter_map-append}
 use Rattle.std.specs.List.{list_any, list_all, range_with_len}
 use Rattle.std.proofs.lemmas.Bool.{and_parts, and_from}
-use Rattle.cx_base.specs.Literals.{Literal, negate, same_literal}
+use Rattle.cx_base.specs.Literals.{Literal, negate}
 use Rattle.cx_base.specs.Problem.{Problem, clauses_of, clause_met, parity_met}
 use Rattle.cx_base.specs.declared.constraint.Constraint.{Constraint}
 use Rattle.cx_base.proofs.Elements.{in_head, in_tail}
@@ -31,8 +31,9 @@ use Rattle.search_steps.specs.Quiet.{IsOfParities}
 use Rattle.search_steps.specs.Search.{Search, IsLog, Serves, IsSearch, told, marked, IsServed, IsLearnedOf}
 use Rattle.search_steps.specs.LogSteps.{IsNoReason, IsAddition, RestOnClauses, IsRowOf, IsClauseOfRow}
 use Rattle.conflict_learn.proofs.ChainOfResolutions.{negated_in}
-use Rattle.search_steps.specs.Hints.{AreHintsFor}
+use Rattle.search_steps.specs.Hints.{AreHintsFor, IsHinted}
 use Rattle.search_steps.specs.Schedule.{IsInReduction, moment_after}
+use Rattle.search_steps.proofs.HintLaws.{step_is_hinted, mark_is_hinted}
 use Rattle.search_steps.proofs.ScheduleLaws.{MayFollow, moment_is, scheduled_then, mark_may_follow}
 use Rattle.search_steps.proofs.Sets.{not_both, true_rests}
 use Rattle.search_steps.proofs.FreshLaws.{takes_forced}
@@ -71,9 +72,9 @@ next_range n =
     ap (range_with_len 1) e ∙ range_push 1 n ∙ ap (λ x. range_with_len 1 n ++ x ∷ []) f
 
 module _ (formula : Problem) (events : List LogEvent) (moment : Moment) (conflicts : ℕ) (log : IsLog formula events moment conflicts) where
-  pub step_goes_on : (step : LogStep) → IsRight (log_calculus formula) moment.tables step → derives_ending_clause formula step ≡ false → StepFits formula moment step → MayFollow events (Step step)
+  pub step_goes_on : (step : LogStep) → IsRight (log_calculus formula) moment.tables step → derives_ending_clause formula step ≡ false → StepFits formula moment step → MayFollow events (Step step) → IsHinted moment.tables step
       → IsLog formula (events ++ Step step ∷ []) (after_event moment (Step step)) conflicts
-  step_goes_on step is_right goes fits may = record {
+  step_goes_on step is_right goes fits may hinted = record {
     apart = log.apart;
     runs = subst (λ steps. Runs (log_calculus formula) (log_calculus formula).start steps (after_log_step moment.tables step)) (sym (filter_map-append step_of events (Step step ∷ [])))
         (runs_push (log_calculus formula) (log_calculus formula).start (filter_map step_of events) step moment.tables log.runs is_right goes);
@@ -81,6 +82,7 @@ module _ (formula : Problem) (events : List LogEvent) (moment : Moment) (conflic
     marks = filter_map-append mark_of events (Step step ∷ []) ∙ append-nil (filter_map mark_of events) ∙ log.marks;
     originals = begins_still formula.constraints events (Step step ∷ []) log.originals;
     scheduled = scheduled_then events (Step step) log.scheduled may;
+    hinted = step_is_hinted events moment (moment_is formula moment events log.fits) step log.hinted hinted;
   }
 
   pub mark_goes_on : MarkFits formula moment → IsLog formula (events ++ Conflict (conflicts + 1) ∷ []) (after_event moment (Conflict (conflicts + 1))) (conflicts + 1)
@@ -91,6 +93,7 @@ module _ (formula : Problem) (events : List LogEvent) (moment : Moment) (conflic
     marks = filter_map-append mark_of events (Conflict (conflicts + 1) ∷ []) ∙ ap (λ xs. xs ++ (conflicts + 1) ∷ []) log.marks ∙ sym (next_range conflicts);
     originals = begins_still formula.constraints events (Conflict (conflicts + 1) ∷ []) log.originals;
     scheduled = scheduled_then events (Conflict (conflicts + 1)) log.scheduled (mark_may_follow events (conflicts + 1));
+    hinted = mark_is_hinted events (conflicts + 1) log.hinted;
   }
 
 -- ---- literals of level 0 are known
@@ -128,26 +131,27 @@ reached_is_known table l h f =
 
 -- ---- steps of the search
 module _ (formula : Problem) (parities : List (List Literal)) (s : Search) (ok : IsSearch formula parities s) where
-  tell : (step : LogStep) → IsRight (log_calculus formula) s.moment.tables step → derives_ending_clause formula step ≡ false → StepFits formula s.moment step → MayFollow s.events (Step step)
+  tell : (step : LogStep) → IsRight (log_calculus formula) s.moment.tables step → derives_ending_clause formula step ≡ false → StepFits formula s.moment step → MayFollow s.events (Step step) → IsHinted s.moment.tables step
       → Serves formula parities (after_log_step s.moment.tables step) s.trail s.quiet_levels → IsSearch formula parities (told s (Step step))
-  tell step is_right goes fits may serves = record { log = step_goes_on formula s.events s.moment s.conflicts ok.log step is_right goes fits may; serves = serves }
+  tell step is_right goes fits may hinted serves = record { log = step_goes_on formula s.events s.moment s.conflicts ok.log step is_right goes fits may hinted; serves = serves }
 
   not_live : (table : Table) (n : ℕ) → get table n ≡ None → is_live table n ≡ false
   not_live table n e = ap is_some e
 
   -- the unit clause of a literal of level 0 that propagation reaches
   pub reached_unit_keeps : (n : ℕ) (z : ℤ) (hints : List ℤ) → IsAddition formula s.moment.tables.clauses n (z ∷ []) → derives_ending_clause formula (ClauseWithHints n (z ∷ []) hints) ≡ false → s.moment.awaits ≡ false
-      → HasChain s.moment.tables.clauses (Rattle.cx_base.specs.Integers.literal z ∷ []) → IsReached s.moment.tables.clauses (Rattle.cx_base.specs.Integers.literal z) → has_literal (held 0 s.trail) (Rattle.cx_base.specs.Integers.literal z) ≡ true
+      → AreHintsFor s.moment.tables.clauses (Rattle.cx_base.specs.Integers.literal z ∷ []) hints → IsReached s.moment.tables.clauses (Rattle.cx_base.specs.Integers.literal z) → has_literal (held 0 s.trail) (Rattle.cx_base.specs.Integers.literal z) ≡ true
       → IsSearch formula parities (told s (Step (ClauseWithHints n (z ∷ []) hints)))
-  reached_unit_keeps n z hints a goes served has_chain reached level_0 =
+  reached_unit_keeps n z hints a goes served right reached level_0 =
       let l = Rattle.cx_base.specs.Integers.literal z in
       let IsRow = IsOfParities formula.variables parities in
       tell (ClauseWithHints n (z ∷ []) hints)
-      (a.within, (not_live s.moment.tables.clauses n a.free, (has_chain, tt)))
+      (a.within, (not_live s.moment.tables.clauses n a.free, ((right.ids, right.live, right.chain), tt)))
       goes
       (subst (λ b. MatchBool b (IsLearned s.moment (l ∷ [])) (derives_ending_clause formula (ClauseWithHints n (z ∷ []) hints) ≡ false → IsKnown s.moment (l ∷ []))) (sym served)
       (λ _. inl (refl, reached_is_known s.moment.tables.clauses l reached)))
       (λ k ys is among. cc)
+      right
       (put_serves formula parities s.trail s.quiet_levels s.moment.tables n (l ∷ []) a.free
       (λ k h. true_rests (held k s.trail) (l ∷ [])
       (part_no_clash (held k s.trail) (all_held s.trail) (held_inside k s.trail) (trail_no_clash s.moment.tables.clauses IsRow s.trail ok.serves.stands))
@@ -161,13 +165,13 @@ module _ (formula : Problem) (parities : List (List Literal)) (s : Search) (ok :
   unit_keeps n z hints older clause a right goes served t u =
       let l = Rattle.cx_base.specs.Integers.literal z in
       let IsRow = IsOfParities formula.variables parities in
-      reached_unit_keeps n z hints a goes served (right.ids, right.live, right.chain) (forced_is_reached s.moment.tables.clauses IsRow older t u.on_clauses clause u.live l u.forces) u.level_0
+      reached_unit_keeps n z hints a goes served right (forced_is_reached s.moment.tables.clauses IsRow older t u.on_clauses clause u.live l u.forces) u.level_0
 
   -- the sum of live parities
   pub live_sum_keeps : (n : ℕ) (zs : List ℤ) (ids : List ℕ) → IsAddition formula s.moment.tables.parities n zs → AreLive s.moment.tables.parities ids → IsSum (literals zs) (named s.moment.tables.parities ids) → IsSearch formula parities (told s (Step (Parity n zs ids)))
   live_sum_keeps n zs ids a live sums = tell (Parity n zs ids)
       (a.within, (not_live s.moment.tables.parities n a.free, (all_are_live ids live, (sums, tt))))
-      refl tt (λ k ys is among. cc)
+      refl tt (λ k ys is among. cc) tt
       (put_parity_serves formula parities s.trail s.quiet_levels s.moment.tables n (literals zs) a.free ok.serves)
     where
       all_are_live : (ids : List ℕ) → AreLive s.moment.tables.parities ids → list_any (λ k. not (is_live s.moment.tables.parities k)) ids ≡ false
@@ -180,7 +184,7 @@ module _ (formula : Problem) (parities : List (List Literal)) (s : Search) (ok :
 
   -- a parity that live clauses imply
   pub clauses_parity_keeps : (n : ℕ) (zs : List ℤ) (ids : List ℕ) → get s.moment.tables.parities n ≡ None → IsRight (log_calculus formula) s.moment.tables (ParityOfClauses n zs ids) → IsSearch formula parities (told s (Step (ParityOfClauses n zs ids)))
-  clauses_parity_keeps n zs ids free is_right = tell (ParityOfClauses n zs ids) is_right refl tt (λ k ys is among. cc) (put_parity_serves formula parities s.trail s.quiet_levels s.moment.tables n (literals zs) free ok.serves)
+  clauses_parity_keeps n zs ids free is_right = tell (ParityOfClauses n zs ids) is_right refl tt (λ k ys is among. cc) tt (put_parity_serves formula parities s.trail s.quiet_levels s.moment.tables n (literals zs) free ok.serves)
 
   -- the clause of a row, where the sum of the row is live
   pub row_clause_keeps : (n : ℕ) (zs : List ℤ) (source : ℕ) (row : List Literal) → IsAddition formula s.moment.tables.clauses n zs → get s.moment.tables.parities source ≡ Some row
@@ -189,7 +193,7 @@ module _ (formula : Problem) (parities : List (List Literal)) (s : Search) (ok :
       (a.within, (not_live s.moment.tables.clauses n a.free, (ap (λ b. not b || false) (ap is_some live), (implied, tt))))
       goes
       (row, live, c.one_of_each)
-      (λ k ys is among. cc)
+      (λ k ys is among. cc) tt
       (put_serves formula parities s.trail s.quiet_levels s.moment.tables n (literals zs) a.free
       (λ k h. implied_rests formula.variables parities (held k s.trail) (literals zs) (ok.serves.quiet k h).rows of_parities) ok.serves)
     where
@@ -199,15 +203,16 @@ module _ (formula : Problem) (parities : List (List Literal)) (s : Search) (ok :
 
   -- a learned clause, where one is owed
   pub learned_keeps : (n : ℕ) (zs hints : List ℤ) (back : ℕ) (l : Literal) → IsAddition formula s.moment.tables.clauses n zs → derives_ending_clause formula (ClauseWithHints n zs hints) ≡ false → s.moment.awaits ≡ true → s.quiet_levels ≡ level_of s.trail
-      → HasChain s.moment.tables.clauses (literals zs) → IsLearnedOf s.trail back (literals zs) l
+      → AreHintsFor s.moment.tables.clauses (literals zs) hints → IsLearnedOf s.trail back (literals zs) l
       → IsSearch formula parities (record (told s (Step (ClauseWithHints n zs hints))) { quiet_levels = back })
-  learned_keeps n zs hints back l a goes owed levels has_chain learned = record {
+  learned_keeps n zs hints back l a goes owed levels right learned = record {
     log = step_goes_on formula s.events s.moment s.conflicts ok.log (ClauseWithHints n zs hints)
-        (a.within, (not_live s.moment.tables.clauses n a.free, (has_chain, tt)))
+        (a.within, (not_live s.moment.tables.clauses n a.free, ((right.ids, right.live, right.chain), tt)))
         goes
         (subst (λ b. MatchBool b (IsLearned s.moment (literals zs)) (derives_ending_clause formula (ClauseWithHints n zs hints) ≡ false → IsKnown s.moment (literals zs))) (sym owed)
         (long zs learned.asserting.has_it, learned_is_fresh formula parities s ok back (literals zs) l levels learned))
-        (λ k ys is among. cc);
+        (λ k ys is among. cc)
+        right;
     serves = put_serves formula parities s.trail back s.moment.tables n (literals zs) a.free
         (Rattle.search_steps.proofs.ServesLaws.learned_rests formula parities s ok back (literals zs) l learned)
         (record {
@@ -227,6 +232,7 @@ module _ (formula : Problem) (parities : List (List Literal)) (s : Search) (ok :
   delete_keeps n zs t no_reason = tell (Delete n zs) tt refl
       (λ h. not_both (is_among s.moment.learned n) (and_parts _ _ h).0 t.not_learned)
       (λ k ys is among. absurd (not_both (is_among s.moment.learned n) (was_learned k ys is among) t.not_learned))
+      tt
       (drop_serves formula parities s.trail s.quiet_levels s.moment.tables n t.high no_reason ok.serves)
     where
       was_learned : (k : ℕ) (ys : List ℤ) → Step (Delete n zs) ≡ Step (Delete k ys) → is_among (moment_after s.events).learned k ≡ true → is_among s.moment.learned n ≡ true
@@ -236,11 +242,11 @@ module _ (formula : Problem) (parities : List (List Literal)) (s : Search) (ok :
 
   pub delete_learned_keeps : (n : ℕ) (zs : List ℤ) → length (clauses_of formula.constraints) < n → IsNoReason n s.trail → 1000 + 250 * s.moment.reductions ≤ length (without s.moment.learned n)
       → IsInReduction s.events → IsSearch formula parities (told s (Step (Delete n zs)))
-  delete_learned_keeps n zs high no_reason enough reducing = tell (Delete n zs) tt refl (λ _. enough) (λ k ys is among. reducing)
+  delete_learned_keeps n zs high no_reason enough reducing = tell (Delete n zs) tt refl (λ _. enough) (λ k ys is among. reducing) tt
       (drop_serves formula parities s.trail s.quiet_levels s.moment.tables n high no_reason ok.serves)
 
   pub delete_sum_keeps : (n : ℕ) (zs : List ℤ) → length parities < n → IsSearch formula parities (told s (Step (DeleteParity n zs)))
-  delete_sum_keeps n zs high = tell (DeleteParity n zs) tt refl tt (λ k ys is among. cc) (drop_parity_serves formula parities s.trail s.quiet_levels s.moment.tables n high ok.serves)
+  delete_sum_keeps n zs high = tell (DeleteParity n zs) tt refl tt (λ k ys is among. cc) tt (drop_parity_serves formula parities s.trail s.quiet_levels s.moment.tables n high ok.serves)
 
   -- the mark of a counted conflict
   keeps_formula : KeepsFormula formula s.moment.tables.clauses

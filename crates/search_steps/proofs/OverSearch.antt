@@ -1,8 +1,7 @@
 -- Laws of trails, said of a search's trail and of its older part.
-use Rattle.std.proofs.Common.{◌≡◌, sym, ◌∙◌, subst, ℕ, ◌+◌, ◌≤◌, ◌<◌, Bool, true, List, [], ◌∷◌, ◌++◌, Contains, inl, inr, arith}
+use Rattle.std.proofs.Common.{◌≡◌, sym, ◌∙◌, subst, ℕ, ◌+◌, ◌≤◌, ◌<◌, Bool, true, List, [], ◌∷◌, ◌++◌, inl, inr, arith}
 use Rattle.cx_base.specs.Literals.{Literal}
 use Rattle.std.proofs.lemmas.List.Folds.{list_all-append}
-use Rattle.std.specs.List.{list_all}
 use Rattle.std.proofs.lemmas.Bool.{and_parts}
 use Rattle.cx_base.specs.Parity.{normal_form}
 use Rattle.cx_base.specs.Problem.{Problem, parities_of, parity_met}
@@ -14,6 +13,7 @@ use Rattle.cx_semantics.specs.LogRules.{HasChain}
 use Rattle.cx_semantics.specs.Tables.{Table}
 use Rattle.cx_semantics.proofs.Soundness.{roof, below_roof}
 use Rattle.cx_trail.specs.Sequence.{TrailState}
+use Rattle.conflict_learn.specs.declared.learning.Resolved.{Resolved}
 use Rattle.conflict_learn.specs.Levels.{Teaches}
 use Rattle.parity_engine.specs.State.{State, back}
 use Rattle.search_steps.specs.Laws.{HaveTheirs}
@@ -58,7 +58,7 @@ module _ (formula : Problem) (parities : List (List Literal)) (s : Search) (ok :
   pub no_clash : Rattle.search_steps.specs.Quiet.HasNoClash (all_held s.trail)
   no_clash = trail_no_clash s.moment.tables.clauses (IsOfParities formula.variables parities) s.trail ok.serves.stands
 
-  pub taught_by_search : (t : TrailState) → Mirrors s.trail t → 0 < t.level → (conflict : List Literal) (holds : List Literal → Type 0) (resolved lits : List Literal) (back lbd : ℕ)
+  pub taught_by_search : (t : TrailState) → Mirrors s.trail t → 0 < t.level → (conflict : List Literal) (holds : List Literal → ℕ → Type 0) (resolved : List Resolved) (lits : List Literal) (back lbd : ℕ)
       → Teaches t conflict holds resolved lits back lbd → (l : Literal) × (more : List Literal) × (lits ≡ l ∷ more) × IsLearnedOf s.trail back lits l
   taught_by_search t f above conflict holds resolved lits back lbd =
       taught_is_learned s.moment.tables.clauses (IsOfParities formula.variables parities) s.trail ok.serves.stands t f.sound f.tied above conflict holds resolved lits back lbd

@@ -7,12 +7,13 @@ use Rattle.cx_base.specs.declared.steps.LogStep.TheVariants.{ClauseWithHints, De
 use Rattle.cx_base.specs.declared.steps.LogEvent.TheVariants.{Step}
 use Rattle.cx_semantics.specs.Chain.{has_literal}
 use Rattle.cx_base.specs.Integers.{literals}
-use Rattle.cx_semantics.specs.LogRules.{HasChain, derives_ending_clause}
+use Rattle.cx_semantics.specs.LogRules.{derives_ending_clause}
 use Rattle.cx_semantics.specs.Marked.{without, is_among}
 use Rattle.cx_semantics.specs.Tables.{Table, get}
 use Rattle.cx_semantics.proofs.Lookups.{Looks-insert, Looks-remove}
 use Rattle.cx_semantics.proofs.Closure.{has_by_inside}
 use Rattle.search_steps.specs.Trail.{by_clause, held, all_held, back_to, level_of, IsTrail, IsUnassigned, Forces}
+use Rattle.search_steps.specs.Hints.{AreHintsFor}
 use Rattle.search_steps.specs.Quiet.{IsOfParities}
 use Rattle.search_steps.specs.Search.{Search, IsSearch, IsServed, IsLearnedOf, told, marked, jumped}
 use Rattle.search_steps.specs.LogSteps.{IsAddition, AreTemporary, deleted, after_learned, after_round}
@@ -103,14 +104,14 @@ module _ (table : Table) (IsRow : List Literal → Type 0) (s : Search) (t : IsT
 -- ---- the round
 module _ (formula : Problem) (parities : List (List Literal)) (s : Search) (ok : IsSearch formula parities s) (n : ℕ) (zs hints : List ℤ) (back : ℕ) (l : Literal) where
   -- The mark, the learned clause, the deletion of what is temporary, the jump back, and the literal that the clause forces.
-  pub round_keeps : IsServed s → s.quiet_levels ≡ level_of s.trail → IsAddition formula s.moment.tables.clauses n zs → derives_ending_clause formula (ClauseWithHints n zs hints) ≡ false → HasChain s.moment.tables.clauses (literals zs) → IsLearnedOf s.trail back (literals zs) l
+  pub round_keeps : IsServed s → s.quiet_levels ≡ level_of s.trail → IsAddition formula s.moment.tables.clauses n zs → derives_ending_clause formula (ClauseWithHints n zs hints) ≡ false → AreHintsFor s.moment.tables.clauses (literals zs) hints → IsLearnedOf s.trail back (literals zs) l
       → AreTemporary formula (after_learned s n zs hints back) s.moment.new_clauses → is_among s.moment.new_clauses n ≡ false → IsSearch formula parities (after_round s n zs hints back l)
-  round_keeps served levels a goes has_chain learned temporary apart =
+  round_keeps served levels a goes right learned temporary apart =
       let IsRow = IsOfParities formula.variables parities in
       let s1 = marked s in
       let ok1 = mark_keeps formula parities s ok served in
       let s2 = after_learned s n zs hints back in
-      let ok2 = learned_keeps formula parities s1 ok1 n zs hints back l a goes refl levels has_chain learned in
+      let ok2 = learned_keeps formula parities s1 ok1 n zs hints back l a goes refl levels right learned in
       let s3 = deleted s2 s.moment.new_clauses in
       let ok3 = deleted_keeps formula parities s2 ok2 s.moment.new_clauses temporary in
       let same_levels : s3.quiet_levels ≡ back = deleted_levels s2 s.moment.new_clauses in

@@ -10,7 +10,6 @@ use Rattle.cx_base.specs.Problem.{Problem, clauses_of, parities_of, AreWithin}
 use Rattle.cx_base.specs.declared.constraint.Constraint.{Constraint}
 use Rattle.cx_base.specs.declared.constraint.Constraint.TheVariants as constraint
 use Rattle.cx_base.specs.declared.steps.LogStep.TheVariants.{Original, OriginalParity, ParityOfClauses}
-use Rattle.cx_base.specs.declared.steps.LogEvent.{LogEvent}
 use Rattle.cx_base.specs.declared.steps.LogEvent.TheVariants.{Step}
 use Rattle.cx_semantics.specs.Chain.{same_literals}
 use Rattle.cx_base.specs.Integers.{integer_of, literals, integers_of, is_negative}
@@ -22,6 +21,7 @@ use Rattle.cx_semantics.proofs.Closure.{inside_itself}
 use Rattle.cx_semantics.proofs.JudgingLaws.{runs_push}
 use Rattle.cx_semantics.proofs.Lookups.{Looks-insert, Looks-empty}
 use Rattle.cx_semantics.proofs.MarkedLaws.{events_go_on}
+use Rattle.search_steps.proofs.HintLaws.{originals_are_hinted}
 use Rattle.search_steps.proofs.ScheduleLaws.{originals_are_scheduled}
 use Rattle.search_steps.specs.Search.{Search, IsSearch, told}
 use Rattle.search_steps.specs.Start.{start, HasFirst, IsBegun}
@@ -258,7 +258,7 @@ nothing_is_begun formula = record {
 -- after the last constraint the search holds
 pub begun_is_search : (formula : Problem) (s : Search) → clashes formula.constraints ≡ false → IsBegun formula formula.constraints s → IsSearch formula (parities_of formula.constraints) s
 begun_is_search formula s apart b = record {
-  log = record { apart = apart; runs = b.runs; fits = b.fits; marks = b.marks ∙ ap (Rattle.std.specs.List.range_with_len 1) (sym b.no_conflict); originals = ([], b.originals ∙ sym (append-nil (original_events 1 1 formula.constraints))); scheduled = originals_are_scheduled formula.constraints s.events b.originals };
+  log = record { apart = apart; runs = b.runs; fits = b.fits; marks = b.marks ∙ ap (Rattle.std.specs.List.range_with_len 1) (sym b.no_conflict); originals = ([], b.originals ∙ sym (append-nil (original_events 1 1 formula.constraints))); scheduled = originals_are_scheduled formula.constraints s.events b.originals; hinted = originals_are_hinted formula.constraints s.events b.originals };
   serves = record {
     stands = subst (Rattle.search_steps.specs.Trail.IsTrail s.moment.tables.clauses (Rattle.search_steps.specs.Quiet.IsOfParities formula.variables (parities_of formula.constraints))) (sym b.no_trail) tt;
     quiet = λ k h. let none = b.no_level in absurd (omega (arith, h, none));
@@ -272,7 +272,7 @@ pub recovered_joins : (formula : Problem) (parities : List (List Literal)) (s : 
     → get s.moment.tables.parities n ≡ None → Rattle.cx_semantics.specs.Judging.IsRight (log_calculus formula) s.moment.tables (ParityOfClauses n zs ids)
     → IsSearch formula (parities ++ literals zs ∷ []) (told s (Step (ParityOfClauses n zs ids)))
 recovered_joins formula parities s ok no_trail no_level n zs ids low free is_right = record {
-  log = step_goes_on formula s.events s.moment s.conflicts ok.log (ParityOfClauses n zs ids) is_right refl tt (λ k ys is among. cc);
+  log = step_goes_on formula s.events s.moment s.conflicts ok.log (ParityOfClauses n zs ids) is_right refl tt (λ k ys is among. cc) tt;
   serves = record {
     stands = subst (Rattle.search_steps.specs.Trail.IsTrail s.moment.tables.clauses (Rattle.search_steps.specs.Quiet.IsOfParities formula.variables (parities ++ literals zs ∷ []))) (sym no_trail) tt;
     quiet = λ k h. absurd (omega (arith, h, no_level));

@@ -1,5 +1,5 @@
 -- The laws of the search's steps.
-use Rattle.std.specs.Prelude.{◌≡◌, ℕ, ◌+◌, ◌*◌, ◌≤◌, ◌<◌, ℤ, Bool, not, List, [], ◌∷◌, ◌++◌, length, Option, Some, None, IsTrue, IsFalse, Contains}
+use Rattle.std.specs.Prelude.{◌≡◌, ℕ, ◌+◌, ◌*◌, ◌≤◌, ◌<◌, ℤ, pos, Bool, not, List, [], ◌∷◌, ◌++◌, length, Option, Some, None, IsTrue, IsFalse, Contains}
 use Rattle.std.specs.List.{list_all, AllByRecursion}
 use Rattle.cx_base.specs.Literals.{Literal, literal_true, negate}
 use Rattle.cx_base.specs.Assumptions.{assumes, clashes, IsFailed}
@@ -23,6 +23,7 @@ use Rattle.cx_semantics.specs.Tables.{Table, Tables, get, named}
 use Rattle.cx_trail.specs.declared.entry.Entry.{Entry as TrailEntry}
 use Rattle.cx_trail.specs.declared.entry.Reason.{Reason}
 use Rattle.cx_trail.specs.Sequence.{TrailState, TakesBack, pushed, IsTrueIn, IsOpenIn}
+use Rattle.conflict_learn.specs.declared.learning.Resolved.{Resolved}
 use Rattle.conflict_learn.specs.Final.{IsFinal}
 use Rattle.conflict_learn.specs.Learning.{Follows, IsAntecedent, IsLearned, IsOfLevel}
 use Rattle.conflict_learn.specs.Levels.{Teaches}
@@ -30,7 +31,7 @@ use Rattle.parity_engine.specs.declared.event.ParityEvent.{ParityEvent}
 use Rattle.parity_engine.specs.declared.state.Held.{Held}
 use Rattle.parity_engine.specs.State.{State, IsSilent, Reports, assigned, back, fresh, known, held_at, pushed as opened}
 use Rattle.search_steps.specs.Engine.{HoldsValues}
-use Rattle.search_steps.specs.Hints.{AreHintsFor}
+use Rattle.search_steps.specs.Hints.{AreHintsFor, IsNamedBy, hints_from}
 use Rattle.search_steps.specs.Ids.{ReasonsBelow, AreRowIds, HasFreeSums, IsRanged}
 use Rattle.search_steps.specs.LogSteps.{IsAddition, RestOnClauses, IsRowOf, IsClauseOfRow, IsRowReason, IsNoReason, IsEnded, AreTemporary, row_events, all_told, deleted, unit_told, after_round}
 use Rattle.search_steps.specs.Propagated.{IsPropagated}
@@ -161,17 +162,17 @@ UnitsKeep = OfSearch (λ formula parities s.
     → AreHintsFor s.moment.tables.clauses (literal z ∷ []) hints → IsFalse (derives_ending_clause formula (ClauseWithHints n (z ∷ []) hints)) → IsFalse s.moment.awaits → RestOnClauses older → (clause : List Literal) → IsLive s.moment.tables.clauses clause → Forces clause (all_held older) e.literal
     → IsSearch formula parities (unit_told s n z hints newer e older))
 
--- and that of a literal of level 0 whose negation is in a clause all of whose literals were traced to level 0
+-- and that of a literal of level 0 whose negation is in a clause all of whose literals were traced to level 0; the clauses that these were resolved with are its hints
 abbrev pub LateUnitsKeep : Type 0
 LateUnitsKeep = OfSearch (λ formula parities s.
     (n : ℕ) (z : ℤ) (hints : List ℤ) → IsAddition formula s.moment.tables.clauses n (z ∷ []) → IsFalse (derives_ending_clause formula (ClauseWithHints n (z ∷ []) hints)) → IsFalse s.moment.awaits
-    → IsTrue (has_literal (held 0 s.trail) (literal z)) → (trail : TrailState) (clause resolved : List Literal) → Follows trail clause (IsLiveSet s.moment.tables.clauses) resolved [] → IsTrue (has_literal clause (negate (literal z)))
-    → IsSearch formula parities (told s (Step (ClauseWithHints n (z ∷ []) hints))))
+    → IsTrue (has_literal (held 0 s.trail) (literal z)) → (trail : TrailState) (clause : List Literal) (resolved : List Resolved) → Follows trail clause (IsNamedBy s.moment.tables.clauses) resolved [] → IsTrue (has_literal clause (negate (literal z)))
+    → hints ≡ hints_from resolved → IsSearch formula parities (told s (Step (ClauseWithHints n (z ∷ []) hints))))
 
--- and at level 0 that of a literal whose negation is in a clause that is not told, where a chain by that clause and live ones is right
+-- and at level 0 that of a literal whose negation is in a clause that is not told, with right hints, where a chain by that clause and live ones is right
 abbrev pub UnitsBesideKeep : Type 0
 UnitsBesideKeep = OfSearch (λ formula parities s.
-    s.quiet_levels ≡ 0 → (n : ℕ) (z : ℤ) (hints : List ℤ) → IsAddition formula s.moment.tables.clauses n (z ∷ []) → IsFalse (derives_ending_clause formula (ClauseWithHints n (z ∷ []) hints)) → IsFalse s.moment.awaits
+    s.quiet_levels ≡ 0 → (n : ℕ) (z : ℤ) (hints : List ℤ) → IsAddition formula s.moment.tables.clauses n (z ∷ []) → AreHintsFor s.moment.tables.clauses (literal z ∷ []) hints → IsFalse (derives_ending_clause formula (ClauseWithHints n (z ∷ []) hints)) → IsFalse s.moment.awaits
     → (clause : List Literal) (clauses : List (List Literal)) → AllByRecursion (IsLiveOr s.moment.tables.clauses clause) clauses → ((assumed : List Literal) → chain assumed clauses ≡ right) → IsTrue (has_literal clause (negate (literal z)))
     → IsSearch formula parities (told s (Step (ClauseWithHints n (z ∷ []) hints))))
 
@@ -180,11 +181,11 @@ abbrev pub MarksKeep : Type 0
 MarksKeep = OfSearch (λ formula parities s.
     IsServed s → IsSearch formula parities (marked s))
 
--- telling the learned clause keeps the search, where one is owed
+-- telling the learned clause with right hints keeps the search, where one is owed
 abbrev pub LearnedClausesKeep : Type 0
 LearnedClausesKeep = OfSearch (λ formula parities s.
     (n : ℕ) (zs hints : List ℤ) (back : ℕ) (l : Literal) → IsAddition formula s.moment.tables.clauses n zs → IsFalse (derives_ending_clause formula (ClauseWithHints n zs hints)) → IsTrue s.moment.awaits → s.quiet_levels ≡ level_of s.trail
-    → HasChain s.moment.tables.clauses (literals zs) → IsLearnedOf s.trail back (literals zs) l → IsSearch formula parities (record (told s (Step (ClauseWithHints n zs hints))) { quiet_levels = back }))
+    → AreHintsFor s.moment.tables.clauses (literals zs) hints → IsLearnedOf s.trail back (literals zs) l → IsSearch formula parities (record (told s (Step (ClauseWithHints n zs hints))) { quiet_levels = back }))
 
 -- deleting temporary clauses one after another keeps the search
 abbrev pub DeletionsKeep : Type 0
@@ -197,12 +198,12 @@ LearnedDeletionsKeep = OfSearch (λ formula parities s.
     (n : ℕ) (zs : List ℤ) → length (clauses_of formula.constraints) < n → IsNoReason n s.trail → 1000 + 250 * s.moment.reductions ≤ length (without s.moment.learned n)
     → IsInReduction s.events → IsSearch formula parities (told s (Step (Delete n zs))))
 
--- a whole conflict keeps the search: the mark, the learned clause, the deletions, the jump back, and the literal that the clause forces
+-- a whole conflict keeps the search: the mark, the learned clause with right hints, the deletions, the jump back, and the literal that the clause forces
 abbrev pub RoundsKeep : Type 0
 RoundsKeep =
     (formula : Problem) (bound next row_next : ℕ) (s : Search) → IsRanged formula bound next row_next s.trail s.moment → (n : ℕ) (zs hints : List ℤ) (back : ℕ) → next ≤ n → n < bound
     → (parities : List (List Literal)) → IsSearch formula parities s → (l : Literal) → IsServed s → s.quiet_levels ≡ level_of s.trail → IsAddition formula s.moment.tables.clauses n zs
-    → IsFalse (derives_ending_clause formula (ClauseWithHints n zs hints)) → HasChain s.moment.tables.clauses (literals zs) → IsLearnedOf s.trail back (literals zs) l → IsSearch formula parities (after_round s n zs hints back l)
+    → IsFalse (derives_ending_clause formula (ClauseWithHints n zs hints)) → AreHintsFor s.moment.tables.clauses (literals zs) hints → IsLearnedOf s.trail back (literals zs) l → IsSearch formula parities (after_round s n zs hints back l)
 
 -- the reason of a row leaves no sum, and a search that may be marked stays so
 abbrev pub RowReasonsServe : Type 0
@@ -225,18 +226,20 @@ RoundsStayTied = OfSearch (λ formula parities s.
 -- the clause that an analysis answers is learned, asserting by its first literal
 abbrev pub TaughtIsLearned : Type 0
 TaughtIsLearned = OfSearch (λ formula parities s.
-    (t : TrailState) → Mirrors s.trail t → 0 < t.level → (conflict resolved lits : List Literal) (back lbd : ℕ) → Teaches t conflict (IsLiveSet s.moment.tables.clauses) resolved lits back lbd
+    (t : TrailState) → Mirrors s.trail t → 0 < t.level → (conflict : List Literal) (resolved : List Resolved) (lits : List Literal) (back lbd : ℕ) → Teaches t conflict (IsNamedBy s.moment.tables.clauses) resolved lits back lbd
     → (l : Literal) × (more : List Literal) × (lits ≡ l ∷ more) × IsLearnedOf s.trail back lits l)
 
--- a learned clause has a right chain, where the conflict and the clauses that the source holds have the literals of live ones
-abbrev pub LearnedHasChain : Type 0
-LearnedHasChain =
-    (table : Table) (trail : TrailState) (conflict resolved lits : List Literal) → IsLiveSet table conflict → IsLearned trail conflict (IsLiveSet table) resolved lits → HasChain table lits
+-- the hints of a learned clause are right: the ids of the clauses that were resolved, the last one's first, and then the conflict's
+abbrev pub LearnedIsHinted : Type 0
+LearnedIsHinted =
+    (table : Table) (trail : TrailState) (conflict : List Literal) (n : ℕ) (resolved : List Resolved) (lits : List Literal) → IsNamedBy table conflict n → IsLearned trail conflict (IsNamedBy table) resolved lits
+    → AreHintsFor table lits (hints_from resolved ++ pos n ∷ [])
 
--- what is left of a clause whose literals were traced to decisions has a right chain
-abbrev pub FinalHasChain : Type 0
-FinalHasChain =
-    (table : Table) (trail : TrailState) (below : ℕ) (kept : Option Literal) (clause resolved lits : List Literal) → IsLiveSet table clause → IsFinal trail below kept clause (IsLiveSet table) resolved lits → HasChain table lits
+-- and those of what is left of a clause whose literals were traced to decisions
+abbrev pub FinalIsHinted : Type 0
+FinalIsHinted =
+    (table : Table) (trail : TrailState) (below : ℕ) (kept : Option Literal) (clause : List Literal) (n : ℕ) (resolved : List Resolved) (lits : List Literal) → IsNamedBy table clause n → IsFinal trail below kept clause (IsNamedBy table) resolved lits
+    → AreHintsFor table lits (hints_from resolved ++ pos n ∷ [])
 
 -- a clause that forced an entry in the calculus is one that implied its literal on the code's trail
 abbrev pub ForcedIsImplied : Type 0
@@ -270,10 +273,10 @@ abbrev pub LastStepsEnd : Type 0
 LastStepsEnd = OfSearch (λ formula parities s.
     (step : LogStep) → IsRight (log_calculus formula) s.moment.tables step → IsTrue (derives_ending_clause formula step) → IsEnded formula (s.events ++ Step step ∷ []) × IsFailed formula (negations (derived_clause step)))
 
--- a clause by a right chain ends a log in this way, and the marks are as before where no clause is owed
+-- a clause with right hints ends a log in this way, and the marks are as before where no clause is owed
 abbrev pub ChainedClausesEnd : Type 0
 ChainedClausesEnd = OfSearch (λ formula parities s.
-    (n : ℕ) (zs hints : List ℤ) → IsAddition formula s.moment.tables.clauses n zs → HasChain s.moment.tables.clauses (literals zs) → IsTrue (derives_ending_clause formula (ClauseWithHints n zs hints)) → IsFalse s.moment.awaits
+    (n : ℕ) (zs hints : List ℤ) → IsAddition formula s.moment.tables.clauses n zs → AreHintsFor s.moment.tables.clauses (literals zs) hints → IsTrue (derives_ending_clause formula (ClauseWithHints n zs hints)) → IsFalse s.moment.awaits
     → IsEnded formula (s.events ++ Step (ClauseWithHints n zs hints) ∷ []) × Marked formula (s.events ++ Step (ClauseWithHints n zs hints) ∷ []) s.conflicts)
 
 -- the clause of a row ends a log in this way, where its sum is live

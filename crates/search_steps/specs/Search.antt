@@ -7,15 +7,15 @@ use Rattle.cx_base.specs.declared.steps.LogEvent.{LogEvent}
 use Rattle.cx_base.specs.declared.steps.LogEvent.TheVariants.{Conflict}
 use Rattle.cx_base.specs.Assumptions.{clashes}
 use Rattle.cx_semantics.specs.Chain.{has_literal}
-use Rattle.cx_semantics.specs.Fresh.{IsLive, KeepsUnits, FalsifiesNone}
 use Rattle.cx_semantics.specs.Judging.{Runs}
 use Rattle.cx_semantics.specs.LogRules.{log_calculus}
 use Rattle.cx_base.specs.Events.{steps_of}
 use Rattle.cx_semantics.specs.Marked.{Moment, first_moment, after_event, EventsFit, mark_of, BeginsWithOriginals}
 use Rattle.cx_semantics.specs.Settled.{IsClauseOf}
-use Rattle.cx_semantics.specs.Tables.{Table, Tables, get, no_tables}
+use Rattle.cx_semantics.specs.Tables.{Tables, get, no_tables}
 use Rattle.search_steps.specs.Trail.{Entry, Why, decided, held, back_to, level_of, IsTrail}
 use Rattle.search_steps.specs.Quiet.{QuietBelow, IsOfParities, IsAsserting}
+use Rattle.search_steps.specs.Hints.{AreHinted}
 use Rattle.search_steps.specs.Schedule.{IsScheduled}
 
 -- the events of the log so far and the moment that they lead to; the trail; how many of the lowest levels are known to be quiet; the counted conflicts
@@ -26,7 +26,7 @@ pub record Search : Type 0 where
   pub quiet_levels : ℕ
   pub conflicts : ℕ
 
--- no assumptions clash, the log's steps are right so far, its events fit, and learned clauses are deleted on schedule
+-- no assumptions clash, the log's steps and hints are right so far, its events fit, and learned clauses are deleted on schedule
 pub record IsLog (formula : Problem) (events : List LogEvent) (moment : Moment) (conflicts : ℕ) : Type 0 where
   pub apart : IsFalse (clashes formula.constraints)
   pub runs : Runs (log_calculus formula) no_tables (steps_of events) moment.tables
@@ -34,6 +34,7 @@ pub record IsLog (formula : Problem) (events : List LogEvent) (moment : Moment) 
   pub marks : filter_map mark_of events ≡ range_with_len 1 conflicts
   pub originals : BeginsWithOriginals formula.constraints events
   pub scheduled : IsScheduled events
+  pub hinted : AreHinted events
 
 -- What the trail needs of the tables: reasons are live, the quiet levels are quiet still, and the formula's clauses and the engine's parities are live under the first ids.
 pub record Serves (formula : Problem) (parities : List (List Literal)) (tables : Tables) (trail : List Entry) (levels : ℕ) : Type 0 where

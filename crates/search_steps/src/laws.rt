@@ -1,5 +1,5 @@
 //! The laws of the search's steps. Each function's contract is the law, and its body is empty.
-ghost use Rattle.search_steps.specs.Laws.{AnswersHold, AssignedValuesHold, AssumptionsAreNotTold, BegunIsRanged, BegunIsSearch, BoundsRise, ChainedClausesEnd, ClauseConflictsAreNow, ClauseStepsKeep, DecisionsKeep, DeletionsKeep, EndedIsUnmet, FalsifiedHasChain, FinalHasChain, ForcedIsImplied, FreshEnginesHold, FullIsMet, HighIsNoReason, HighIsNotAmong, ImpliedClausesRest, JumpsKeep, JumpsStayTied, KnownIsTrue, LargerClausesRest, LastStepsEnd, LateUnitsKeep, LaterEntriesGo, LearnedClausesKeep, LearnedDeletionsKeep, LearnedHasChain, MarksKeep, NewLevelsHold, NextIdsAreFree, NoValueIsOpen, NothingIsBegun, OpenHasNoValue, OriginalClausesAreTold, OriginalParitiesAreTold, OtherTrailsKeepRanges, PropagationsKeep, RecoveredParitiesJoin, RecoveredTakesOne, RoundsAreTidy, RoundsKeep, RoundsKeepRanges, RoundsStayTied, RowClausesEnd, RowClausesKeep, RowConflictsAreNow, RowIdsAreTemporary, RowReasonsKeep, RowReasonsServe, RowStepsKeep, RowsAreOfParities, SearchesAreOpen, SettledWantsNoDecision, SilentIsQuiet, StoredForces, StoredIsFalse, StoredRests, SumDeletionsKeep, SumsAreFreeAgain, SumsAreFreeAtFirst, SumsKeep, TaughtIsLearned, TheirsAreHad, TidyLinesComeLate, TidyLinesGoOn, ToldStepsKeepRanges, TrailStepsKeepRanges, TrailsHaveNoClash, UnitParitiesKeep, UnitsBesideKeep, UnitsKeep, ValuesTakenBackHold, WatchedIsQuiet};
+ghost use Rattle.search_steps.specs.Laws.{AnswersHold, AssignedValuesHold, AssumptionsAreNotTold, BegunIsRanged, BegunIsSearch, BoundsRise, ChainedClausesEnd, ClauseConflictsAreNow, ClauseStepsKeep, DecisionsKeep, DeletionsKeep, EndedIsUnmet, FalsifiedHasChain, FinalIsHinted, ForcedIsImplied, FreshEnginesHold, FullIsMet, HighIsNoReason, HighIsNotAmong, ImpliedClausesRest, JumpsKeep, JumpsStayTied, KnownIsTrue, LargerClausesRest, LastStepsEnd, LateUnitsKeep, LaterEntriesGo, LearnedClausesKeep, LearnedDeletionsKeep, LearnedIsHinted, MarksKeep, NewLevelsHold, NextIdsAreFree, NoValueIsOpen, NothingIsBegun, OpenHasNoValue, OriginalClausesAreTold, OriginalParitiesAreTold, OtherTrailsKeepRanges, PropagationsKeep, RecoveredParitiesJoin, RecoveredTakesOne, RoundsAreTidy, RoundsKeep, RoundsKeepRanges, RoundsStayTied, RowClausesEnd, RowClausesKeep, RowConflictsAreNow, RowIdsAreTemporary, RowReasonsKeep, RowReasonsServe, RowStepsKeep, RowsAreOfParities, SearchesAreOpen, SettledWantsNoDecision, SilentIsQuiet, StoredForces, StoredIsFalse, StoredRests, SumDeletionsKeep, SumsAreFreeAgain, SumsAreFreeAtFirst, SumsKeep, TaughtIsLearned, TheirsAreHad, TidyLinesComeLate, TidyLinesGoOn, ToldStepsKeepRanges, TrailStepsKeepRanges, TrailsHaveNoClash, UnitParitiesKeep, UnitsBesideKeep, UnitsKeep, ValuesTakenBackHold, WatchedIsQuiet};
 
 /// At the start nothing is told.
 pub fn nothing_is_begun()
@@ -96,7 +96,7 @@ pub fn late_units_keep()
     ensures { LateUnitsKeep }
 {}
 
-/// Telling the unit clause of a literal keeps the search at level 0, whose negation is in a clause that a chain for the empty clause needs beside live ones.
+/// Telling the unit clause of a literal with right hints keeps the search at level 0, where the literal's negation is in a clause that a chain for the empty clause needs beside live ones.
 pub fn units_beside_keep()
     ensures { UnitsBesideKeep }
 {}
@@ -106,7 +106,7 @@ pub fn marks_keep()
     ensures { MarksKeep }
 {}
 
-/// Telling the learned clause keeps the search, where one is owed.
+/// Telling the learned clause with right hints keeps the search, where one is owed.
 pub fn learned_clauses_keep()
     ensures { LearnedClausesKeep }
 {}
@@ -146,14 +146,14 @@ pub fn taught_is_learned()
     ensures { TaughtIsLearned }
 {}
 
-/// A learned clause has a right chain, where the conflict and the clauses that the source holds have the literals of live ones.
-pub fn learned_has_chain()
-    ensures { LearnedHasChain }
+/// The hints of a learned clause are right: the ids of the clauses that were resolved, the last one's first, and then the conflict's.
+pub fn learned_is_hinted()
+    ensures { LearnedIsHinted }
 {}
 
-/// What is left of a clause whose literals were traced to decisions has a right chain.
-pub fn final_has_chain()
-    ensures { FinalHasChain }
+/// The hints of what is left of a clause whose literals were traced to decisions are right.
+pub fn final_is_hinted()
+    ensures { FinalIsHinted }
 {}
 
 /// A clause that forced an entry in the calculus is one that implied its literal on the code's trail.
@@ -186,7 +186,7 @@ pub fn last_steps_end()
     ensures { LastStepsEnd }
 {}
 
-/// A clause by a right chain ends a log in this way, and the marks are as before where no clause is owed.
+/// A clause with right hints ends a log in this way, and the marks are as before where no clause is owed.
 pub fn chained_clauses_end()
     ensures { ChainedClausesEnd }
 {}

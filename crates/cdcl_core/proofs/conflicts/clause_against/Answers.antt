@@ -20,7 +20,7 @@ returns-then-place-len g c =
     record {
       concludes = subst (Concludes c.args.log.now.formula.now c.args.state.now (g.P.ParityEngine.state c.args.engine.now) (g.L.Sink.items c.args.log.now.sink.now) (Some l)) (sym k.1)
           (hinted_concludes c.args.log.now.formula.now c.args.state.now (g.P.ParityEngine.state c.args.engine.now) (g.L.Sink.items c.args.log.now.sink.now) c.requires.stands l k.0 k.4 (subst IsId (sym k.3) c.in_ok-unit.ensures.id)
-          (inr (inl (c.args.place, low, is))) (alone_implied c.args.state.now.trail l k.0.lits is));
+          (inr (inl (c.args.place, low, is, k.3 ∙ c.in_ok-unit.ensures.is))) (alone_implied c.args.state.now.trail l k.0.lits is));
       log = search rules;
     }
 

@@ -19,7 +19,7 @@ returns-in_ok-stored-in-Clause-clause-concludes_on g c =
     record {
       concludes = subst (Concludes c.args.log.now.formula.now c.args.state.now e told None) (sym k.1)
           (found_concludes c.args.log.now.formula.now c.args.state.now e told c.requires.stands c.args.found c.in-Clause.reference c.in-Clause.is c.requires.found
-          k.0 (k.2 ∙ c.in_ok-stored-in-Clause.ensures.lits) k.4 (subst IsId (sym k.3) c.in_ok-stored-in-Clause.ensures.id));
+          k.0 (k.2 ∙ c.in_ok-stored-in-Clause.ensures.lits) (k.3 ∙ c.in_ok-stored-in-Clause.ensures.is) k.4 (subst IsId (sym k.3) c.in_ok-stored-in-Clause.ensures.id));
       log = search rules;
     }
 

@@ -1,9 +1,9 @@
-use Rattle.std.proofs.Common.{sym, subst, ◌∙◌, [], Some, rules}
+use Rattle.std.proofs.Common.{sym, subst, ◌∙◌, [], Some, inl, rules}
 use Rattle.cx_base.proofs.LiteralLaws.{negate-negate}
 use Rattle.conflict_learn.specs.Learning.{HasReason}
 use Rattle.cdcl_search.specs.Tells.{IsId}
 use Rattle.cdcl_search.proofs.LowIds.{has_ids}
-use Rattle.cdcl_search.proofs.SourceLaws.{no_decision, clause_is_live, clause_is_antecedent, stored_is_sourced, row_is_reason}
+use Rattle.cdcl_search.proofs.SourceLaws.{no_decision, clause_is_live, clause_is_antecedent, row_is_reason}
 use Rattle.cdcl_core.specs.Concluding.{Concludes}
 use Rattle.cdcl_core.proofs.ConflictLaws.{hinted_concludes}
 use Rattle.cdcl_core.proofs.conflicts.reason_against.Goals as goal
@@ -29,6 +29,6 @@ returns-in_ok-stored-in-Clause g c =
     record {
       concludes = subst (Concludes c.args.log.now.formula.now c.args.state.now (g.P.ParityEngine.state c.args.engine.now) (g.L.Sink.items c.args.log.now.sink.now) (Some c.args.literal)) (sym k.1)
           (hinted_concludes c.args.log.now.formula.now c.args.state.now (g.P.ParityEngine.state c.args.engine.now) (g.L.Sink.items c.args.log.now.sink.now) c.requires.stands c.args.literal k.0 k.4 (subst IsId (sym k.3) c.in_ok-stored-in-Clause.ensures.id)
-          (stored_is_sourced c.args.state.now r live [] k.0.lits is) (clause_is_antecedent c.args.state.now (g.P.ParityEngine.state c.args.engine.now) c.requires.stands.3.reasons c.requires.stands.3.trail.follows.sound c.args.literal c.requires.high.0 c.requires.high.1 (c.requires.high.2 ∙ sym (negate-negate c.args.literal)) c.requires.high.3 r (subst (HasReason c.args.state.now.trail c.args.literal) c.in-Clause.is c.requires.reason) k.0.lits is));
+          (inl (r, live, is, k.3 ∙ c.in_ok-stored-in-Clause.ensures.is)) (clause_is_antecedent c.args.state.now (g.P.ParityEngine.state c.args.engine.now) c.requires.stands.3.reasons c.requires.stands.3.trail.follows.sound c.args.literal c.requires.high.0 c.requires.high.1 (c.requires.high.2 ∙ sym (negate-negate c.args.literal)) c.requires.high.3 r (subst (HasReason c.args.state.now.trail c.args.literal) c.in-Clause.is c.requires.reason) k.0.lits is));
       log = search rules;
     }

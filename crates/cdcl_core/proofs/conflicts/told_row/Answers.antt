@@ -18,6 +18,7 @@ returns-in-Ok-clause-told g c =
     let rows = c.in-Ok.ensures.rows ∙ ap (λ rows. rows ++ c.args.reason.clause ∷ []) c.new-rows.ensures.items in
     record {
       lits = c.in-Ok.ensures.clause;
+      id = c.first_id_of_rows.ensures;
       rows = rows;
       told = (
         let low = next_is_low c.args.log.now.formula.now c.args.state.now (g.P.ParityEngine.state c.args.engine.now) _ [] c.requires.stands.0 c.requires.stands.3 in

@@ -1,8 +1,9 @@
 use Rattle.std.proofs.Common.{ap, subst, IfOk, rules, arith}
 use Rattle.conflict_learn.specs.Final.{IsFinal}
-use Rattle.cdcl_search.specs.Sources.{IsSourced}
+use Rattle.cdcl_search.specs.Sources.{IsSourcedBy}
 use Rattle.cdcl_search.proofs.Feeding.{trail_is_short}
 use Rattle.cdcl_search.proofs.Outcomes.{on_ok}
+use Rattle.cdcl_core.specs.Failing.{IsFailure}
 use Rattle.cdcl_core.proofs.LearnLaws.{stands_at}
 use Rattle.cdcl_core.proofs.FailLaws.{fails_at, is_left}
 use Rattle.cdcl_core.proofs.failing.trace.Goals as goal
@@ -10,7 +11,7 @@ use Rattle.cdcl_core.proofs.failing.trace.Goals as goal
 pub analyse_final-requires-clause-room : goal.analyse_final-requires-clause-room
 analyse_final-requires-clause-room g c =
     let few = c.requires.few_rows in
-    let within = c.requires.fails.within in
+    let within = c.requires.fails.1.within in
     let short = trail_is_short c.args.log.now.formula.now c.args.state.now (g.P.ParityEngine.state c.args.engine.now) c.args.rows.now.items (g.L.Sink.items c.args.log.now.sink.now) c.requires.stands in
     omega (arith, few, short, within)
 
@@ -22,14 +23,14 @@ returns-clause-stands g c =
     (ap g.P.ParityEngine.state loans.engine) (search rules) (search rules) (on_ok _ c.analyse_final.result c.analyse_final.ensures.ready (λ r. r.0))
 
 pub returns-clause-left : goal.returns-clause-left
-returns-clause-left g c =
+returns-clause-left g c = λ n fails.
     let new = c.analyse_final.new.source in
     let state = c.analyse_final.ensures.goes_on.0.state in
     let rows = c.rows-1.given.0.items in
-    is_left c.analyse_final.result _ c.args.state.now c.args.lits.now c.args.kept.now c.args.below rows
-    (fails_at _ c.args.state.now c.args.lits.now c.args.kept.now c.args.below c.args.rows.now.items rows
-    (subst (λ rs. IsSourced c.args.state.now rs c.args.lits.now) (search rules) (subst (λ k. IsSourced k new.rows.now.items c.args.lits.now) state (c.analyse_final.ensures.held c.args.lits.now c.requires.fails.sourced))) (search rules))
-    (subst (λ ls. IfOk c.analyse_final.result (λ x. IsFinal c.args.state.now.trail c.args.below c.args.kept.now ls (IsSourced c.args.state.now rows) x.resolved x.lits)) c.as_slice.ensures
-    (subst (λ rs. IfOk c.analyse_final.result (λ x. IsFinal c.args.state.now.trail c.args.below c.args.kept.now c.as_slice.result.now (IsSourced c.args.state.now rs) x.resolved x.lits)) (search rules)
-    (subst (λ k. IfOk c.analyse_final.result (λ x. IsFinal c.args.state.now.trail c.args.below c.args.kept.now c.as_slice.result.now (IsSourced k new.rows.now.items) x.resolved x.lits)) state c.analyse_final.ensures.left)))
+    is_left c.analyse_final.result _ c.args.state.now c.args.lits.now n c.args.kept.now c.args.below rows
+    (fails_at _ c.args.state.now c.args.lits.now n c.args.kept.now c.args.below c.args.rows.now.items rows
+    (subst (λ rs. IsSourcedBy c.args.state.now rs c.args.lits.now n) (search rules) (subst (λ k. IsSourcedBy k new.rows.now.items c.args.lits.now n) state (c.analyse_final.ensures.held c.args.lits.now n fails.sourced))) (subst (λ cs. IsFailure cs c.args.state.now c.args.lits.now n c.args.kept.now c.args.below c.args.rows.now.items) (search rules) fails))
+    (subst (λ ls. IfOk c.analyse_final.result (λ x. IsFinal c.args.state.now.trail c.args.below c.args.kept.now ls (IsSourcedBy c.args.state.now rows) x.resolved.items x.lits)) c.as_slice.ensures
+    (subst (λ rs. IfOk c.analyse_final.result (λ x. IsFinal c.args.state.now.trail c.args.below c.args.kept.now c.as_slice.result.now (IsSourcedBy c.args.state.now rs) x.resolved.items x.lits)) (search rules)
+    (subst (λ k. IfOk c.analyse_final.result (λ x. IsFinal c.args.state.now.trail c.args.below c.args.kept.now c.as_slice.result.now (IsSourcedBy k new.rows.now.items) x.resolved.items x.lits)) state c.analyse_final.ensures.left)))
     (search rules)

@@ -8,6 +8,7 @@ use Rattle.cx_trail.specs.Sequence.{TrailState, IsTrail, IsOpenIn, pushed}
 use Rattle.search_policy.specs.Assuming.{KeepsAssumptions}
 use Rattle.search_policy.specs.declared.assumptions.Assumptions.{Assumptions}
 use Rattle.search_policy.proofs.AssumingLaws.{extended_keeps}
+use Rattle.conflict_learn.specs.Learning.{literals_of}
 use Rattle.conflict_learn.specs.Touching.{AreTouched}
 use Rattle.search_steps.specs.LogSteps.{after_round}
 use Rattle.search_steps.specs.Search.{IsSearch}
@@ -28,7 +29,7 @@ bump-requires g c =
     record {
       within = λ k d h. scores_within c.args.formula.now c.args.state.now (g.P.ParityEngine.state c.args.engine.now) c.args.learned.now.lits c.args.learned.now.back_level l.search l.taught
           c.go_back.new.state (g.P.ParityEngine.state c.go_back.new.engine) (c.go_back.ensures.back.ties l.taught.rows l.search l.taught.search l.taught.ties) c.go_back.ensures.back.watched c.go_back.ensures.back.back
-          c.args.learned.now.resolved c.args.learned.now.lits c.deref.result.now (subst (AreTouched c.args.state.now.trail c.args.learned.now.resolved c.args.learned.now.lits) (sym c.deref.ensures.value) c.requires.touched) k d h;
+          (literals_of c.args.learned.now.resolved.items) c.args.learned.now.lits c.deref.result.now (subst (AreTouched c.args.state.now.trail (literals_of c.args.learned.now.resolved.items) c.args.learned.now.lits) (sym c.deref.ensures.value) c.requires.touched) k d h;
     }
 
 pub enter-requires : goal.enter-requires
@@ -65,7 +66,7 @@ returns-clause-stands g c = on_ok _ c.enter.result c.enter.ensures (λ enters to
     c.bump.new.order c.bump.ensures.standing c.bump.ensures.scores c.enter.new.state learned.lbd l.hints c.go_back.ensures.back.counts c.go_back.ensures.back.units
     (subst (λ xs. Enters (record c.go_back.new.state { order = c.bump.new.order; next = c.go_back.new.state.next + 1; conflicts = c.go_back.new.state.conflicts + 1; learned = c.go_back.new.state.learned + 1 }) c.enter.new.state xs c.go_back.new.state.next learned.lbd) c.as_slice.ensures enters) in (
       after_round l.search c.args.state.now.next (integers_of learned.lits) l.hints learned.back_level l.taught.first,
-      subst (λ ps. IsSearch f ps (after_round l.search c.args.state.now.next (integers_of learned.lits) l.hints learned.back_level l.taught.first)) (sym c.go_back.ensures.back.parities) (round_is_search f c.args.state.now e learned.lits learned.back_level l.search l.taught l.hints),
+      subst (λ ps. IsSearch f ps (after_round l.search c.args.state.now.next (integers_of learned.lits) l.hints learned.back_level l.taught.first)) (sym c.go_back.ensures.back.parities) (round_is_search f c.args.state.now e learned.lits learned.back_level l.search l.taught l.hints l.right),
       l.told_is,
       now.0,
       now.1,

@@ -1,11 +1,12 @@
-use Rattle.std.proofs.Common.{◌≤◌, length}
+use Rattle.std.proofs.Common.{◌≡◌, ◌≤◌, drop, length}
 use Rattle.cx_base.specs.Numbers.{AreStepIntegers}
+use Rattle.search_steps.specs.Hints.{hints_from}
 use Rattle.cdcl_core.proofs.learning.hints_of_resolved.Given as goal
 
 abbrev pub invariant-loop-left : goal.invariant-loop-left
 invariant-loop-left l = record {
   left : l.left ≤ length l.resolved;
-  behind : l.behind ≤ l.rows;
+  hints : l.hints.items ≡ hints_from (drop l.left l.resolved);
   integers : AreStepIntegers l.hints.items;
 }
 

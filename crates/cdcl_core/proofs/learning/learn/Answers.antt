@@ -20,7 +20,7 @@ tell_learned-requires-clause-unsettled g c = λ s. c.requires.unsettled (subst S
 
 pub tell_learned-requires-clause-at : goal.tell_learned-requires-clause-at
 tell_learned-requires-clause-at g c =
-    subst (λ rs. IsAtConflict g.P.ParityEngine g.L.Sink c.lesson_of.new.log c.args.state.now c.args.engine.now rs c.args.conflict.lits) (sym c.deref.ensures.value) c.in_ok-learned.ensures.at
+    subst (λ rs. IsAtConflict g.P.ParityEngine g.L.Sink c.lesson_of.new.log c.args.state.now c.args.engine.now rs c.args.conflict.lits c.args.conflict.id) (sym c.deref.ensures.value) (c.in_ok-learned.ensures.at c.args.conflict.id c.requires.at)
 
 pub tell_learned-requires-clause-lesson : goal.tell_learned-requires-clause-lesson
 tell_learned-requires-clause-lesson g c =
@@ -45,7 +45,7 @@ returns-in_err-learned g c =
     rw (fault.1, fault.2) (record { learned = tt; touched = tt; clear = tt; log = c.in_err-learned.ensures.log })
 
 pub lesson_of-requires-clause-at : goal.lesson_of-requires-clause-at
-lesson_of-requires-clause-at g c = c.requires.at
+lesson_of-requires-clause-at g c = (c.args.conflict.id, c.requires.at)
 
 pub lesson_of-requires-clause-few_rows : goal.lesson_of-requires-clause-few_rows
 lesson_of-requires-clause-few_rows g c = c.requires.told.1

@@ -2,7 +2,8 @@ use Rattle.std.proofs.Common.{◌∙◌, sym, ap, subst, IfOk, IsTrue, None, rul
 use Rattle.cx_base.specs.Literals.{Literal}
 use Rattle.cx_semantics.specs.Chain.{has_literal}
 use Rattle.conflict_learn.specs.Final.{IsFinal, StandsBelow}
-use Rattle.cdcl_search.specs.Sources.{IsSourced, RowsAreApart}
+use Rattle.conflict_learn.specs.Learning.{literals_of}
+use Rattle.cdcl_search.specs.Sources.{IsSourcedBy, RowsAreApart}
 use Rattle.cdcl_search.proofs.Feeding.{trail_is_short}
 use Rattle.cdcl_search.proofs.Outcomes.{on_ok}
 use Rattle.cdcl_core.proofs.LearnLaws.{stands_at}
@@ -35,10 +36,10 @@ returns-clause-left g c =
     let new = c.analyse_final.new.source in
     let trail = c.args.state.now.trail in
     let rows = c.rows-1.given.0.items in
-    subst (λ n. IfOk c.analyse_final.result (λ x. IsFinal trail n None c.args.clause.now (IsSourced c.args.state.now rows) x.resolved x.lits)) c.len-below.ensures.len
-    (subst (λ ls. IfOk c.analyse_final.result (λ x. IsFinal trail c.len-below.result None ls (IsSourced c.args.state.now rows) x.resolved x.lits)) c.as_slice.ensures
-    (subst (λ rs. IfOk c.analyse_final.result (λ x. IsFinal trail c.len-below.result None c.as_slice.result.now (IsSourced c.args.state.now rs) x.resolved x.lits)) (search rules)
-    (subst (λ k. IfOk c.analyse_final.result (λ x. IsFinal trail c.len-below.result None c.as_slice.result.now (IsSourced k new.rows.now.items) x.resolved x.lits)) c.analyse_final.ensures.goes_on.0.state c.analyse_final.ensures.left)))
+    subst (λ n. IfOk c.analyse_final.result (λ x. IsFinal trail n None c.args.clause.now (IsSourcedBy c.args.state.now rows) x.resolved.items x.lits)) c.len-below.ensures.len
+    (subst (λ ls. IfOk c.analyse_final.result (λ x. IsFinal trail c.len-below.result None ls (IsSourcedBy c.args.state.now rows) x.resolved.items x.lits)) c.as_slice.ensures
+    (subst (λ rs. IfOk c.analyse_final.result (λ x. IsFinal trail c.len-below.result None c.as_slice.result.now (IsSourcedBy c.args.state.now rs) x.resolved.items x.lits)) (search rules)
+    (subst (λ k. IfOk c.analyse_final.result (λ x. IsFinal trail c.len-below.result None c.as_slice.result.now (IsSourcedBy k new.rows.now.items) x.resolved.items x.lits)) c.analyse_final.ensures.goes_on.0.state c.analyse_final.ensures.left)))
 
 pub returns-clause-stand : goal.returns-clause-stand
-returns-clause-stand g c = subst (λ n. IfOk c.analyse_final.result (λ x. (l : Literal) → IsTrue (has_literal x.resolved l) → StandsBelow c.args.state.now.trail n l)) c.len-below.ensures.len c.analyse_final.ensures.stand
+returns-clause-stand g c = subst (λ n. IfOk c.analyse_final.result (λ x. (l : Literal) → IsTrue (has_literal (literals_of x.resolved.items) l) → StandsBelow c.args.state.now.trail n l)) c.len-below.ensures.len c.analyse_final.ensures.stand

@@ -46,9 +46,9 @@ fail-requires-clause-fails g c =
     let r = c.requires.refuted in
     let told = c.in_ok-conflict.ensures.told in
     let k = c.in_ok-conflict.conflict in
-    subst (λ (f : Problem). IsFailure f.constraints c.args.state.now k.lits None c.len-below.result k.rows.items) (sym c.in_ok-conflict.ensures.log.formula)
-    (fails_by c.args.log.now.formula.now.constraints c.args.state.now k.lits None c.len-below.result k.rows.items
-    (row_is_against c.args.log.now.formula.now c.args.state.now (g.P.ParityEngine.state c.args.engine.now) (g.L.Sink.items c.args.log.now.sink.now) c.requires.stands c.args.row None c.requires.clash c.in_ok-reason.reason c.in_ok-reason.ensures.parity c.in_ok-reason.ensures.numbers c.in_ok-reason.ensures.sum c.in_ok-reason.ensures.clause k.rows.items k.lits told.lits told.rows)
+    subst (λ (f : Problem). IsFailure f.constraints c.args.state.now k.lits k.id None c.len-below.result k.rows.items) (sym c.in_ok-conflict.ensures.log.formula)
+    (fails_by c.args.log.now.formula.now.constraints c.args.state.now k.lits k.id None c.len-below.result k.rows.items
+    (row_is_against c.args.log.now.formula.now c.args.state.now (g.P.ParityEngine.state c.args.engine.now) (g.L.Sink.items c.args.log.now.sink.now) c.requires.stands c.args.row None c.requires.clash c.in_ok-reason.reason c.in_ok-reason.ensures.parity c.in_ok-reason.ensures.numbers c.in_ok-reason.ensures.sum c.in_ok-reason.ensures.clause k.rows.items k.lits k.id told.lits told.id told.rows)
     (start_ends_at c.args.log.now.formula.now.constraints c.args.state.now.trail c.requires.stands.3.trail.follows.sound r.level r.apart c.len-below.result c.len-below.ensures.len))
 
 pub fail-requires-clause-told : goal.fail-requires-clause-told

@@ -50,7 +50,7 @@ pub returns-then-place-len-clause-stands_on : goal.returns-then-place-len-clause
 returns-then-place-len-clause-stands_on g c = record { stands = c.requires.stands; log = log_rests g.L.Sink g.met.L.Sink.keeps_itself c.args.log.now }
 
 pub returns-then-place-len-clause-grows : goal.returns-then-place-len-clause-grows
-returns-then-place-len-clause-grows g c clause sourced = sourced
+returns-then-place-len-clause-grows g c clause n sourced = sourced
 
 pub returns-then-place-len-clause-sourced : goal.returns-then-place-len-clause-sourced
 returns-then-place-len-clause-sourced g c =
@@ -69,7 +69,7 @@ pub returns-in_ok-stored-in-Clause-clause-stands_on : goal.returns-in_ok-stored-
 returns-in_ok-stored-in-Clause-clause-stands_on g c = record { stands = c.requires.stands; log = log_rests g.L.Sink g.met.L.Sink.keeps_itself c.args.log.now }
 
 pub returns-in_ok-stored-in-Clause-clause-grows : goal.returns-in_ok-stored-in-Clause-clause-grows
-returns-in_ok-stored-in-Clause-clause-grows g c clause sourced = sourced
+returns-in_ok-stored-in-Clause-clause-grows g c clause n sourced = sourced
 
 pub hinted_row-requires-clause-stands : goal.hinted_row-requires-clause-stands
 hinted_row-requires-clause-stands g c = c.requires.stands
@@ -117,10 +117,10 @@ pub returns-in_err-unit : goal.returns-in_err-unit
 returns-in_err-unit g c =
     let fault = err_from_is_err_and c.from_residual.result c.from_residual.ensures.1 in
     rw (fault.1, fault.2)
-    (record { sourced = tt; implied = tt; id = tt; grows = λ clause sourced. sourced; one = tt; stands_on = record { stands = tt; log = log_stops g.L.Sink g.met.L.Sink.keeps_itself c.args.log.now } })
+    (record { sourced = tt; implied = tt; id = tt; grows = λ clause n sourced. sourced; one = tt; stands_on = record { stands = tt; log = log_stops g.L.Sink g.met.L.Sink.keeps_itself c.args.log.now } })
 
 pub returns-in_err-stored-in-Clause : goal.returns-in_err-stored-in-Clause
 returns-in_err-stored-in-Clause g c =
     let fault = err_from_is_err_and c.from_residual-in_err-stored-in-Clause.result c.from_residual-in_err-stored-in-Clause.ensures.1 in
     rw (fault.1, fault.2)
-    (record { sourced = tt; implied = tt; id = tt; grows = λ clause sourced. sourced; one = tt; stands_on = record { stands = tt; log = log_stops g.L.Sink g.met.L.Sink.keeps_itself c.args.log.now } })
+    (record { sourced = tt; implied = tt; id = tt; grows = λ clause n sourced. sourced; one = tt; stands_on = record { stands = tt; log = log_stops g.L.Sink g.met.L.Sink.keeps_itself c.args.log.now } })

@@ -2,7 +2,7 @@ use Rattle.std.proofs.Common.{◌≡◌, ◌≤◌, ◌<◌, length, true, None}
 use Rattle.cx_base.specs.Literals.{Literal}
 use Rattle.cx_semantics.specs.Chain.{has_literal}
 use Rattle.conflict_learn.specs.Final.{StandsBelow}
-use Rattle.conflict_learn.specs.Learning.{AreHeld}
+use Rattle.conflict_learn.specs.Learning.{AreHeld, literals_of}
 use Rattle.conflict_learn.specs.Marks.{StandBetween}
 use Rattle.conflict_learn.proofs.FinalLaws.{Tracing}
 use Rattle.conflict_learn.proofs.MarkLaws.{marked_below}
@@ -21,7 +21,7 @@ invariant-loop-place g l = record {
   size : l.trail.variables < length l.marks;
   stand : StandBetween l.trail l.marks l.lowest l.from;
   state : Tracing l.trail l.below l.kept l.clause (g.S.Antecedents.holds l.source) l.gathered.resolved.items l.gathered.lits.items (marked_below l.trail l.marks l.from);
-  resolved : (m : Literal) → has_literal l.gathered.resolved.items m ≡ true → StandsBelow l.trail l.below m;
+  resolved : (m : Literal) → has_literal (literals_of l.gathered.resolved.items) m ≡ true → StandsBelow l.trail l.below m;
 }
 
 abbrev pub decreases-loop-place : goal.decreases-loop-place

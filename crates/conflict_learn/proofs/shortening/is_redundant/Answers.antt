@@ -22,6 +22,7 @@ returns-in-Some-clause-covered g c h =
     let at : l ≡ literal_at trail place = ap (λ x. x.literal) c.entry-entry.ensures.is in
     let clause = c.in-Some.clause.now in (
       clause,
+      _,
       c.in-Some.ensures.held,
       antecedent_here trail _ l place clause c.requires.stands at c.in-Some.ensures.implied,
       subst (λ x. IsCovered trail c.args.marks.now x clause) at (c.is_covered.ensures h),
