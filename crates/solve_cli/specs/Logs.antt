@@ -11,10 +11,11 @@ use Rattle.cx_judgements.specs.LogTexts.{LogOpen, LogRight, Budgeted}
 use Rattle.cx_texts.specs.LogText.{LogReads, EventsRead}
 use Rattle.cx_semantics.specs.Marked.{Marked, mark_of}
 use Rattle.search_steps.specs.Recovering.{SettledWithRecovered}
+use Rattle.search_steps.specs.Hints.{AreHinted}
 use Rattle.search_steps.specs.Schedule.{IsScheduled}
 use Rattle.cx_desk.specs.Outside.{Bytes}
 
--- The log is marked fewer times than the budget, and never where propagation settles the formula; its ids are low, and learned clauses are deleted on schedule.
+-- The log is marked fewer times than the budget, and never where propagation settles the formula; its ids are low, learned clauses are deleted on schedule, and the hints of its clauses are right.
 pub record HasFewMarks (formula : Problem) (budget : ℕ) (log : Bytes) : Type 0 where
   pub events : List LogEvent
   pub read : EventsRead log events finished
@@ -22,6 +23,7 @@ pub record HasFewMarks (formula : Problem) (budget : ℕ) (log : Bytes) : Type 0
   pub marked : Marked formula events count
   pub ids : AllByRecursion HasLowId events
   pub scheduled : IsScheduled events
+  pub hinted : AreHinted events
   pub few : count < budget
   pub settled : SettledWithRecovered formula → count ≡ 0
 
@@ -55,11 +57,16 @@ HasOnlyLowIds log = (events : List LogEvent) × EventsRead log events finished �
 abbrev pub HasSchedule : Bytes → Type 0
 HasSchedule log = (events : List LogEvent) × EventsRead log events finished × IsScheduled events
 
+-- each clause by a chain comes with hints that are right for it
+abbrev pub HasRightHints : Bytes → Type 0
+HasRightHints log = (events : List LogEvent) × EventsRead log events finished × AreHinted events
+
 -- before the answer that the budget is spent
 pub record IsSpentLog (formula : Problem) (budget : ℕ) (log : Bytes) : Type 0 where
   pub marked : Budgeted formula log budget
   pub ids : HasOnlyLowIds log
   pub scheduled : HasSchedule log
+  pub hinted : HasRightHints log
 
 -- the bytes are a prefix of a log all of whose steps are right and have low ids; where propagation settles the formula, it has no mark
 pub record IsLogSoFar (formula : Problem) (bytes : Bytes) : Type 0 where
