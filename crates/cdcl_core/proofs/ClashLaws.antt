@@ -15,6 +15,7 @@ use Rattle.search_steps.proofs.ScheduleLaws.{originals_are_scheduled}
 use Rattle.search_steps.proofs.Ends.{ended_is_unmet}
 use Rattle.cdcl_core.specs.Originals.{HasBegun}
 use Rattle.cdcl_core.specs.Results.{Refutes}
+use Rattle.cdcl_core.proofs.FewAdditions.{originals_are_bounded}
 
 begun_is_marked : (formula : Problem) (s : Search) → IsBegun formula formula.constraints s → Marked formula s.events 0
 begun_is_marked formula s b = record {
@@ -34,7 +35,7 @@ clash_refutes formula x budget some clash c (Some es) b = record {
   clash = λ both. (x, clash, refl);
   log = (
     record { ended = inl c; last = λ apart. absurd (true≢false (sym c ∙ apart)) },
-    (0, omega (arith, some), subst (λ xs. Marked formula xs 0) (sym b.4) (begun_is_marked formula b.0 b.1)),
+    (0, omega (arith, some), subst (λ xs. Marked formula xs 0) (sym b.4) (begun_is_marked formula b.0 b.1), originals_are_bounded formula es (b.4 ∙ b.1.originals)),
     subst IsScheduled (sym b.4) (originals_are_scheduled formula.constraints b.0.events b.1.originals),
     subst AreHinted (sym b.4) (originals_are_hinted formula.constraints b.0.events b.1.originals),
   );

@@ -17,6 +17,7 @@ use Rattle.xor_reason.specs.ReasonClause.{AreAssigned, AreFalseBut, IsReasonFor,
 use Rattle.cx_trail.specs.Sequence.{IsFalseIn, IsTrueIn}
 use Rattle.xor_reason.specs.declared.reason.ReasonOf.{ReasonOf}
 use Rattle.xor_reason.proofs.EventLaws.{broken_is_missed}
+use Rattle.search_steps.specs.Size.{additions, most_additions}
 use Rattle.search_steps.specs.Tied.{IsTied}
 use Rattle.search_steps.proofs.EngineLaws.{known_is_true}
 use Rattle.search_steps.proofs.Stored.{of_has}
@@ -33,7 +34,8 @@ use Rattle.cdcl_core.specs.Concluding.{Concludes, EndsLog, IsEndedWith, IsRowAga
 use Rattle.cdcl_core.specs.Shortening.{AreShort, EndsByRow, HasNoUnit, short_row_events}
 use Rattle.cdcl_core.specs.declared.conflicts.LogEnd.{LogEnd}
 use Rattle.cdcl_core.specs.declared.shortening.UnitClause.{UnitClause}
-use Rattle.cdcl_core.proofs.ShortLaws.{known_by, short_by, IsUnitIn, IsReadyToEnd, IsLeftOfRow, ready_to_end, is_left, told_units, left_inside, left_is_unmet, left_fails, left_ends, negations_all, false_negations}
+use Rattle.cdcl_core.proofs.ShortLaws.{known_by, few_by, short_by, IsUnitIn, IsReadyToEnd, IsLeftOfRow, ready_to_end, is_left, told_units, left_inside, left_is_unmet, left_fails, left_ends, negations_all, false_negations}
+use Rattle.cdcl_core.proofs.FewAdditions.{ties_add_few, parts_are_all}
 use Rattle.conflict_learn.specs.Learning.{IsAntecedent}
 use Rattle.cdcl_search.specs.Sources.{IsSourcedBy}
 use Rattle.cdcl_search.proofs.RowReasons as reasons
@@ -134,6 +136,13 @@ module _ (formula : Problem) (c : SearchState) (e : State) (told : Option (List 
         of_row : IsLeftOfRow formula theirs reason.sources units left
         of_row = is_left formula c e [] st.0 st.1 st.3 reason row_explains left units by.shortened.parts ends
 
+        few_then : additions st.0.events + length units + 2 ≤ most_additions formula c.conflicts
+        few_then =
+            let few = ties_add_few formula c e [] st.0 st.3 in
+            let parts = parts_are_all reason.clause left units by.shortened.parts in
+            let width = few_by formula c e [] st.0 st.1 st.3 reason row_explains in
+            omega (arith, few, parts, width)
+
         pub ends_log : EndsLog formula c.conflicts told n.failed n.steps.items
         ends_log = record {
           texts = by.ends.steps.texts;
@@ -142,7 +151,7 @@ module _ (formula : Problem) (c : SearchState) (e : State) (told : Option (List 
           apart = st.1.log.apart;
           log = subst (λ xs. IsEndedWith formula c.conflicts n.failed (with_events xs told)) (sym by.ends.steps.are)
               (subst (λ failed. IsEndedWith formula c.conflicts failed (with_events (short_row_events k reason.sources units left (first_row_id c.next)) told)) (sym by.ends.failed)
-              (left_ends formula theirs c.conflicts k (first_row_id c.next) st.0 ready reason.sources units left of_row units_in told st.2));
+              (left_ends formula theirs c.conflicts k (first_row_id c.next) st.0 ready reason.sources units left of_row units_in few_then told st.2));
         }
 
         pub is_short : AreShort c kept n.failed

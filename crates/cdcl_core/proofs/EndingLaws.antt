@@ -1,5 +1,5 @@
 -- What is told last: a clause that ends the log.
-use Rattle.std.proofs.Common.{◌≡◌, refl, sym, ap, subst, ℕ, ◌+◌, ℤ, true, false, ◌∙◌, List, [], ◌∷◌, ◌++◌, length, Option, Some, None, inr, arith, true≢false, length-append}
+use Rattle.std.proofs.Common.{◌≡◌, refl, sym, ap, subst, ℕ, ◌+◌, ◌≤◌, ℤ, true, false, ◌∙◌, List, [], ◌∷◌, ◌++◌, length, Option, Some, None, inr, arith, true≢false, length-append}
 use Rattle.cx_base.specs.Literals.{Literal}
 use Rattle.cx_base.specs.Problem.{Problem, Unmet}
 use Rattle.cx_base.specs.declared.steps.LogStep.{LogStep}
@@ -14,6 +14,8 @@ use Rattle.cx_base.specs.Integers.{integers_of, literals}
 use Rattle.search_steps.specs.Hints.{AreHintsFor}
 use Rattle.search_steps.specs.LogSteps.{IsAddition}
 use Rattle.search_steps.specs.Search.{IsSearch}
+use Rattle.search_steps.specs.Size.{additions, most_additions, IsBounded}
+use Rattle.search_steps.proofs.SizeLaws.{additions_join}
 use Rattle.search_steps.proofs.Ends.{ended_is_unmet, chained_clause_ends, chained_clause_fails, chained_clause_is_marked, chained_clause_is_scheduled, chained_clause_is_hinted}
 use Rattle.search_steps.specs.Search.{Search}
 use Rattle.search_steps.specs.Holding.{AreTold}
@@ -31,7 +33,7 @@ no_newer (x ∷ newer) older es is long = absurd (let a = ap length is in let b 
 -- ---- steps that end the log
 within : (formula : Problem) (marks : ℕ) (failed : List Literal) (told : Option (List LogEvent)) → IsEndedWith formula marks failed told → IsEndedWithin formula (marks + 1) failed told
 within formula marks failed None e = tt
-within formula marks failed (Some events) e = (e.0, (marks, omega arith, e.1), e.2, e.3)
+within formula marks failed (Some events) e = (e.0, (marks, omega arith, e.1, e.4), e.2, e.3)
 
 pub ends_refute : (formula : Problem) (marks : ℕ) (failed : List Literal) (told : Option (List LogEvent)) → Unmet formula → IsFailed formula failed → clashes formula.constraints ≡ false → IsEndedWith formula marks failed told → Refutes formula (marks + 1) told failed
 ends_refute formula marks failed told unmet fails apart ends = record { unmet = unmet; fails = fails; clash = λ both. absurd (true≢false (sym both ∙ apart)); log = within formula marks failed told ends }
@@ -65,9 +67,12 @@ module _ (formula : Problem) (parities : List (List Literal)) (s : Search) (ok :
   clause_is_marked : Marked formula (s.events ++ Step last ∷ []) marks
   clause_is_marked = subst (Marked formula (s.events ++ Step last ∷ [])) count (chained_clause_is_marked formula parities s ok n (integers_of lits) hints served ending_told)
 
-  pub clause_is_told : (o : Option (List LogEvent)) → AreTold o s.events → IsEndedWith formula marks (negations lits) (with_events (Step last ∷ []) o)
-  clause_is_told None a = tt
-  clause_is_told (Some es) a = subst (λ xs. IsEndedWith formula marks (negations lits) (Some (xs ++ Step last ∷ []))) (sym a) (clause_ends, clause_is_marked, chained_clause_is_scheduled formula parities s ok n (integers_of lits) hints, chained_clause_is_hinted formula parities s ok n (integers_of lits) hints right_told)
+  clause_is_bounded : additions s.events + 1 ≤ most_additions formula marks → IsBounded formula marks (s.events ++ Step last ∷ [])
+  clause_is_bounded few = let one = additions_join s.events (Step last ∷ []) in omega (arith, one, few)
+
+  pub clause_is_told : additions s.events + 1 ≤ most_additions formula marks → (o : Option (List LogEvent)) → AreTold o s.events → IsEndedWith formula marks (negations lits) (with_events (Step last ∷ []) o)
+  clause_is_told few None a = tt
+  clause_is_told few (Some es) a = subst (λ xs. IsEndedWith formula marks (negations lits) (Some (xs ++ Step last ∷ []))) (sym a) (clause_ends, clause_is_marked, chained_clause_is_scheduled formula parities s ok n (integers_of lits) hints, chained_clause_is_hinted formula parities s ok n (integers_of lits) hints right_told, clause_is_bounded few)
 
   pub clause_is_unmet : Unmet formula
   clause_is_unmet = ended_is_unmet formula (s.events ++ Step last ∷ []) clause_ends.ended
@@ -81,7 +86,7 @@ module _ (formula : Problem) (c : SearchState) (lits : List Literal) (n : ℕ) (
   k = shown.1.2
 
   pub shown_ends : IsEndedWith formula c.conflicts [] (with_events (Step (ClauseWithHints c.next [] hints) ∷ []) old)
-  shown_ends = clause_is_told formula k.parities s_then k.search k.served c.conflicts k.conflicts c.next [] hints refl (record { within = refl; free = k.free }) (k.hinted hints are) refl old shown.1.1
+  shown_ends = clause_is_told formula k.parities s_then k.search k.served c.conflicts k.conflicts c.next [] hints refl (record { within = refl; free = k.free }) (k.hinted hints are) refl (let few = k.few_additions in omega (arith, few)) old shown.1.1
 
   pub shown_is_unmet : Unmet formula
   shown_is_unmet = clause_is_unmet formula k.parities s_then k.search k.served c.conflicts k.conflicts c.next [] hints refl (record { within = refl; free = k.free }) (k.hinted hints are) refl

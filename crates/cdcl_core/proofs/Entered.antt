@@ -1,5 +1,5 @@
 -- A learned clause is entered: the code's trail and what is on it.
-use Rattle.std.proofs.Common.{◌≡◌, refl, sym, ap, ◌∙◌, subst, ℕ, zero, suc, ◌+◌, ◌<◌, ◌≤◌, ◌^◌, ℤ, true, false, cond, nat_le, nat_lt, is_some, List, [], ◌∷◌, ◌++◌, length, take, get_or, None, Option, ◌⊎◌, inl, inr, arith, length-append, Contains, true≢false}
+use Rattle.std.proofs.Common.{◌≡◌, refl, sym, ap, ◌∙◌, subst, ℕ, zero, suc, ◌+◌, ◌*◌, ◌<◌, ◌≤◌, ◌^◌, ℤ, true, false, cond, nat_le, nat_lt, is_some, List, [], ◌∷◌, ◌++◌, length, take, get_or, None, Option, ◌⊎◌, inl, inr, arith, length-append, Contains, true≢false}
 use Rattle.std.proofs.lemmas.Bool.{ltb-true, ltb-false}
 use Rattle.std.proofs.lemmas.List.{take-append-le}
 use Rattle.std.specs.Prelude.{IsTrue}
@@ -24,8 +24,10 @@ use Rattle.search_steps.specs.Search.{Search, jumped}
 use Rattle.search_steps.specs.LogSteps.{after_round}
 use Rattle.search_steps.specs.Tied.{IsTied, Mirrors}
 use Rattle.search_steps.specs.Ids.{IsRanged}
+use Rattle.search_steps.specs.Size.{HasFewAdditions}
 use Rattle.conflict_learn.proofs.ChainOfResolutions.{by_cases}
 use Rattle.search_steps.proofs.Bridge.{entry_last}
+use Rattle.search_steps.proofs.SizeLaws.{round_adds_one, round_counts_one, one_mark_more}
 use Rattle.parity_engine.specs.State.{State}
 use Rattle.cdcl_search.specs.declared.state.SearchState.{SearchState}
 use Rattle.cdcl_search.specs.Ties.{first_row_id, IsNamedBy, ClauseTies, AreNumbered, AreUnits, IsFed, IsFallingFrom, HasReasonOf, HaveReasons, Ties}
@@ -149,6 +151,16 @@ module _ (formula : Problem) (c : SearchState) (e : State) (lits : List Literal)
           met = λ values agrees. has.met values (subst (λ es. (m : Literal) → IsTrueIn es m → IsTrue (literal_true values m)) (sym (same_take (suc i) (omega (arith, h)))) agrees);
         }
 
+  few_then : HasFewAdditions formula D.next (first_row_id D.next) 0 after
+  few_then =
+      let was = taught.ties.log.few_additions in
+      let rows = taught.ties.log.few_rows in
+      let one = round_adds_one s c.next (integers_of lits) hints back taught.first in
+      let next = put.next in
+      let mark = round_counts_one s c.next (integers_of lits) hints back taught.first in
+      let cost = ap (λ (k : ℕ). formula.variables * k) mark ∙ one_mark_more formula.variables s.conflicts in
+      omega (arith, was, rows, one, next, mark, cost)
+
   -- the ties, but for what differs where the clause has one literal
   pub ties_entered : ClauseTies formula after.moment.tables.clauses (c.next + 1) D.arena (held 0 after.trail) → AreUnits after.moment.tables.clauses (c.next + 1) D.trail after.trail D.units.items → HaveReasons D e1
       → length c1.units.items ≤ length D.units.items → Ties formula D e1 [] after
@@ -160,6 +172,7 @@ module _ (formula : Problem) (c : SearchState) (e : State) (lits : List Literal)
       numbered = subst (λ table. AreNumbered table e1.parities) (sym (parities_then formula c e lits back s taught hints)) t1.log.numbered;
       rows_told = λ i h. absurd (omega (arith, h));
       few_rows = omega arith;
+      few_additions = few_then;
       none_at_0 = get_old formula c e lits back s taught hints 0 (omega arith) (λ same. let some = taught.ties.log.ranged.originals in omega (arith, same, some)) ∙ taught.ties.log.none_at_0;
       served = record {
         served = (tidy formula c e lits back s taught hints).served;

@@ -37,6 +37,7 @@ use Rattle.cdcl_search.specs.Ties.{SearchStands, first_row_id}
 use Rattle.cdcl_search.proofs.SourceLaws.{sourced_is_named}
 use Rattle.cdcl_core.specs.Concluding.{IsEndedWith, IsClauseAgainst}
 use Rattle.cdcl_core.proofs.EndingLaws.{clause_is_told, clause_is_unmet, clause_fails}
+use Rattle.cdcl_core.proofs.FewAdditions.{ties_add_few}
 
 -- it fails also where more rows are told
 pub fails_at : (constraints : List Constraint) (c : SearchState) (clause : List Literal) (n : ℕ) (kept : Option Literal) (below : ℕ) (rows more : List (List Literal)) → IsSourcedBy c more clause n → IsFailure constraints c clause n kept below rows
@@ -188,7 +189,7 @@ module _ (formula : Problem) (c : SearchState) (e : State) (rows : List (List Li
   added = record { within = variables_are_within formula.variables left.lits within; free = next_is_free formula (first_row_id c.next) c.next (first_row_id c.next + length rows) st.0 st.3.log.ranged (omega arith) }
 
   pub left_is_told : IsEndedWith formula c.conflicts (negations left.lits) (with_events (Step (ClauseWithHints c.next (integers_of left.lits) hints) ∷ []) old)
-  left_is_told = clause_is_told formula e.parities st.0 st.1 st.3.log.served.served c.conflicts st.3.counts.marked c.next left.lits hints back added right ends old st.2
+  left_is_told = clause_is_told formula e.parities st.0 st.1 st.3.log.served.served c.conflicts st.3.counts.marked c.next left.lits hints back added right ends (let few = ties_add_few formula c e rows st.0 st.3 in omega (arith, few)) old st.2
 
   pub left_is_unmet : Unmet formula
   left_is_unmet = clause_is_unmet formula e.parities st.0 st.1 st.3.log.served.served c.conflicts st.3.counts.marked c.next left.lits hints back added right ends

@@ -27,6 +27,8 @@ use Rattle.search_steps.specs.Ids.{HasFreeSums}
 use Rattle.search_steps.specs.Search.{Search, IsSearch, told}
 use Rattle.search_steps.proofs.IdLaws.{begun_has_free_sums, recovered_has_free_sums}
 use Rattle.search_steps.proofs.OverSearch.{theirs_are_had}
+use Rattle.search_steps.specs.Size.{additions}
+use Rattle.search_steps.proofs.SizeLaws.{additions_join, originals_add}
 use Rattle.search_steps.proofs.StartLaws.{begun_is_search, recovered_joins, literals_are, variables_are_within}
 use Rattle.cdcl_search.specs.Tells.{IsId, IsLeft, with_events}
 use Rattle.cdcl_core.specs.Given.{IsGiven, HasGiven, AreEngines}
@@ -108,6 +110,7 @@ begun_has_given formula o apart b = (
     no_reduction = b.1.no_reduction;
     not_reducing = b.1.not_reducing;
     tidy = b.1.tidy;
+    few_additions = let told = ap additions b.1.originals in let all = originals_add 1 1 formula.constraints in omega (arith, told, all);
   },
   b.4,
 )
@@ -159,6 +162,7 @@ module _ (formula : Problem) (parities : List (List Literal)) (s : Search) (g : 
     no_reduction = g.no_reduction;
     not_reducing = g.not_reducing;
     tidy = record { served = g.tidy.served; no_old_clauses = g.tidy.no_old_clauses; no_new_clauses = g.tidy.no_new_clauses; no_old_sums = g.tidy.no_old_sums; no_new_sums = g.tidy.no_new_sums; levels = g.tidy.levels };
+    few_additions = let was = g.few_additions in let one = additions_join s.events (Step (ParityOfClauses id zs find.clauses) ∷ []) in let long = longer in omega (arith, was, one, long);
   }
 
 pub find_has_given : (formula : Problem) (parities : List (List Literal)) (o : Option (List LogEvent)) → HasGiven formula parities o → (find : FoundParity) → AreWithin formula.variables find.parity → IsJudgedRight formula find

@@ -20,6 +20,7 @@ use Rattle.search_steps.specs.Quiet.{IsOfParities}
 use Rattle.search_steps.specs.Search.{Search, IsSearch, jumped}
 use Rattle.search_steps.specs.Tied.{IsTied}
 use Rattle.search_steps.specs.Ids.{IsRanged}
+use Rattle.search_steps.specs.Size.{HasFewAdditions}
 use Rattle.search_steps.proofs.TrailLaws.{held_back, back_level}
 use Rattle.search_steps.proofs.CodeSteps.{tied_back}
 use Rattle.search_steps.proofs.Bridge.{level_tied}
@@ -220,6 +221,7 @@ module _ (formula : Problem) (k : ℕ) (c d : SearchState) (e f : State) (rows :
       numbered = t.log.numbered;
       rows_told = subst (λ n. AreRows s.moment.tables.clauses (first_row_id n) rows) (sym g.next) t.log.rows_told;
       few_rows = t.log.few_rows;
+      few_additions = subst (λ n. HasFewAdditions formula n (first_row_id n) (length rows) (jumped s k)) (sym g.next) t.log.few_additions;
       none_at_0 = t.log.none_at_0;
       served = record { served = t.log.served.served; old_clauses = t.log.served.old_clauses; new_clauses = t.log.served.new_clauses ∙ ap (λ n. row_ids (first_row_id n) (length rows)) (sym g.next); old_sums = t.log.served.old_sums; new_sums = t.log.served.new_sums };
     };

@@ -1,5 +1,5 @@
 -- A row that is not met at level 0 ends the log with the empty clause, once each of its literals has a unit clause.
-use Rattle.std.proofs.Common.{◌≡◌, ◌≢◌, refl, sym, ap, ◌∙◌, subst, ℕ, ◌+◌, ◌<◌, ◌≤◌, ℤ, true, false, ◌&&◌, List, [], ◌∷◌, ◌++◌, map, length, get_or, Option, Some, None, arith, inr, true≢false, append_assoc}
+use Rattle.std.proofs.Common.{◌≡◌, ◌≢◌, refl, sym, ap, ◌∙◌, subst, ℕ, ◌+◌, ◌<◌, ◌≤◌, ℤ, true, false, ◌&&◌, List, [], ◌∷◌, ◌++◌, map, length, get_or, Option, Some, None, arith, inr, true≢false, append_assoc, length-append}
 use Rattle.std.specs.List.{AllByRecursion}
 use Rattle.std.specs.FinMap as map_
 use Rattle.std.proofs.lemmas.Bool.{and_from}
@@ -31,10 +31,12 @@ use Rattle.search_steps.specs.Hints.{IsNamedBy, hints_from}
 use Rattle.search_steps.specs.Ids.{AreRowIds, IsRanged}
 use Rattle.search_steps.specs.LogSteps.{all_told}
 use Rattle.search_steps.specs.Search.{Search, IsSearch, told}
+use Rattle.search_steps.specs.Size.{additions, most_additions}
 use Rattle.search_steps.specs.Trail.{Entry, held}
 use Rattle.search_steps.proofs.Bridge.{to_held}
 use Rattle.search_steps.proofs.IdLaws.{row_next_is_free}
 use Rattle.search_steps.proofs.LateUnits.{late_unit_keeps}
+use Rattle.search_steps.proofs.SizeLaws.{told_adds}
 use Rattle.search_steps.proofs.StartLaws.{literals_are, variables_are_within}
 use Rattle.cdcl_search.specs.declared.state.SearchState.{SearchState}
 use Rattle.cdcl_search.specs.Explaining.{Explains}
@@ -50,9 +52,10 @@ use Rattle.cdcl_core.specs.Shortening.{ArePartedInto, IsToldUnit, EndsByUnits, l
 use Rattle.cdcl_core.specs.declared.conflicts.LogEnd.{LogEnd}
 use Rattle.cdcl_core.specs.declared.shortening.UnitClause.{UnitClause}
 use Rattle.cdcl_core.proofs.AgainstLaws.{both_assumed_clash}
+use Rattle.cdcl_core.proofs.FewAdditions.{ties_add_few, late_units_add, parts_are_all}
 use Rattle.cdcl_core.proofs.LateSteps.{late_count}
 use Rattle.cdcl_core.proofs.ShortForms.{alone, left_is_sum}
-use Rattle.cdcl_core.proofs.ShortLaws.{IsUnitIn, IsReadyToEnd, IsLeftOfRow, ready_to_end, clause_normal, told_unit, left_inside, left_all, left_fails, left_is_unmet, left_ends}
+use Rattle.cdcl_core.proofs.ShortLaws.{IsUnitIn, IsReadyToEnd, IsLeftOfRow, ready_to_end, few_by, clause_normal, told_unit, left_inside, left_all, left_fails, left_is_unmet, left_ends}
 
 -- ---- nothing is left at level 0
 none_decided : (t : TrailState) → IsTrail t → t.level ≡ 0 → (places : List ℕ) → AllByRecursion (λ p. p < length t.entries) places → AllByRecursion (IsDecidedAt t) places → negated_at t places ≡ []
@@ -260,6 +263,17 @@ module _ (formula : Problem) (c : SearchState) (e : State) (rows : List (List Li
     ends = refl;
   }
 
+  few_then : additions s1.events + length (units ++ late) + 2 ≤ most_additions formula c.conflicts
+  few_then =
+      let few = ties_add_few formula c e rows s st.3 in
+      let parts = parts_are_all r.clause left units by.shortened.parts in
+      let width = few_by formula c e rows s st.1 st.3 r x in
+      let join = told_adds s (late_unit_events hints late) in
+      let more = late_units_add hints late in
+      let long = count in
+      let both = length-append units late in
+      omega (arith, few, parts, width, join, more, long, both)
+
   pub refuted_none : n.failed ≡ []
   refuted_none = by.ends.failed ∙ ap negations by.nothing
 
@@ -271,7 +285,7 @@ module _ (formula : Problem) (c : SearchState) (e : State) (rows : List (List Li
     apart = st.1.log.apart;
     log = subst (λ xs. IsEndedWith formula c.conflicts [] (with_events xs told_)) (sym steps_are)
         (subst (IsEndedWith formula c.conflicts []) (more_and_more (late_unit_events hints late) (short_row_events k r.sources (units ++ late) [] (first + length left)) told_)
-        (left_ends formula e.parities c.conflicts k (first + length left) s1 ready r.sources (units ++ late) [] of_row all_units (with_events (late_unit_events hints late) told_) (all_told_are (late_unit_events hints late) s told_ st.2)));
+        (left_ends formula e.parities c.conflicts k (first + length left) s1 ready r.sources (units ++ late) [] of_row all_units few_then (with_events (late_unit_events hints late) told_) (all_told_are (late_unit_events hints late) s told_ st.2)));
   })
     where
       steps_are : as_events n.steps.items ≡ late_unit_events hints late ++ short_row_events k r.sources (units ++ late) [] (first + length left)

@@ -25,9 +25,11 @@ use Rattle.search_steps.specs.Trail.{Entry, by_clause, held}
 use Rattle.search_steps.specs.LogSteps.{IsNoReason}
 use Rattle.search_steps.specs.Search.{Search, IsSearch, told}
 use Rattle.search_steps.specs.Schedule.{IsInReduction, IsRestart}
+use Rattle.search_steps.specs.Size.{additions}
 use Rattle.search_steps.proofs.ScheduleLaws.{moment_is, reduction_may_begin, reduction_goes_on}
 use Rattle.search_steps.proofs.LogLaws.{delete_learned_keeps}
 use Rattle.search_steps.proofs.IdLaws.{deletion_ranged}
+use Rattle.search_steps.proofs.SizeLaws.{additions_join}
 use Rattle.search_steps.proofs.Stored.{has_of, of_has}
 use Rattle.cdcl_search.specs.declared.state.SearchState.{SearchState}
 use Rattle.conflict_learn.specs.declared.fault.CoreFault.{CoreFault}
@@ -166,6 +168,9 @@ module _ (formula : Problem) (c : SearchState) (e : State) (s : Search) (ok : Is
   abbrev d : SearchState
   d = record c { arena = b; learned = c.learned - 1 }
 
+  additions_less : additions after.events ≡ additions s.events
+  additions_less = let join = additions_join s.events (Step (Delete n []) ∷ []) in omega (arith, join)
+
   pub ties_less : Ties formula d e [] after
   ties_less = record {
     log = record {
@@ -174,6 +179,7 @@ module _ (formula : Problem) (c : SearchState) (e : State) (s : Search) (ok : Is
       numbered = p.log.numbered;
       rows_told = λ i h. absurd (omega (arith, h));
       few_rows = omega arith;
+      few_additions = let was = p.log.few_additions in let same = additions_less in omega (arith, was, same);
       none_at_0 = drop_other s.moment.tables.clauses n 0 (λ same. let late = here.late was_learned in omega (arith, same, late)) ∙ p.log.none_at_0;
       served = record {
         served = p.log.served.served;

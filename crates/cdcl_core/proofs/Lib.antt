@@ -34,5 +34,6 @@ pub mod NarrowLogs
 pub mod RecoveredWithin
 pub mod NarrowSettled
 pub mod NarrowAnswers
+pub mod FewAdditions
 pub mod RaisedScores
 pub mod OnSchedule

@@ -21,6 +21,7 @@ use Rattle.cdcl_core.specs.Results.{IsFresh, IsOpenWith, IsRightOutcome}
 use Rattle.cdcl_core.specs.declared.solving.SearchOutcome.{SearchOutcome}
 use Rattle.cdcl_core.specs.declared.solving.SearchOutcome.TheVariants.{Sat, Unsat, Unknown}
 use Rattle.cdcl_core.proofs.Answering.{fresh_is_left, fresh_is_low, fresh_has_no_mark}
+use Rattle.cdcl_core.proofs.FewAdditions.{bounded_over_more}
 use Rattle.cdcl_core.proofs.NarrowLogs.{open_over_more, ends_over_more, marked_over_more}
 use Rattle.cdcl_core.proofs.NarrowSettled.{LooksBelow, given_looks, recovered_looks, settled_over_fewer}
 use Rattle.cdcl_core.proofs.NarrowValues.{AllWithin, padded_meets, unmet_over_more}
@@ -79,7 +80,7 @@ module _ (m : ℕ) (formula : Problem) (few : m ≤ formula.variables) (within :
 
   open_with_over_more : (n : ℕ) (told : Option (List LogEvent)) → IsOpenWith (over m formula) n told → IsOpenWith formula n told
   open_with_over_more n None h = h
-  open_with_over_more n (Some events) h = (open_over_more m formula few (steps_of events) h.0, marked_over_more m formula few events n h.1, h.2, h.3)
+  open_with_over_more n (Some events) h = (open_over_more m formula few (steps_of events) h.0, marked_over_more m formula few events n h.1, h.2, h.3, bounded_over_more formula m n events few h.4)
 
   -- ---- answers
 
@@ -90,7 +91,7 @@ module _ (m : ℕ) (formula : Problem) (few : m ≤ formula.variables) (within :
     unmet = unmet_over_more m formula within r.unmet;
     fails = failed_over_more failed r.fails;
     clash = r.clash;
-    log = (record { ended = ended_over_more events r.log.0.ended; last = r.log.0.last }, (r.log.1.0, r.log.1.1, marked_over_more m formula few events r.log.1.0 r.log.1.2), r.log.2, r.log.3);
+    log = (record { ended = ended_over_more events r.log.0.ended; last = r.log.0.last }, (r.log.1.0, r.log.1.1, marked_over_more m formula few events r.log.1.0 r.log.1.2, bounded_over_more formula m r.log.1.0 events few r.log.1.3), r.log.2, r.log.3);
   }
   answer_over_more budget told (Unknown conflicts) u = record { count = u.count; log = open_with_over_more budget told u.log }
 

@@ -34,6 +34,8 @@ use Rattle.search_steps.specs.Holding.{AreTold}
 use Rattle.search_steps.specs.Ids.{HasFreeSums}
 use Rattle.search_steps.specs.LogSteps.{IsAddition, IsClauseOfRow, IsEnded, all_told}
 use Rattle.search_steps.specs.Search.{Search, IsSearch, told}
+use Rattle.search_steps.specs.Size.{additions, most_additions, IsBounded}
+use Rattle.search_steps.proofs.SizeLaws.{told_adds}
 use Rattle.search_steps.proofs.Ends.{row_clause_ends, row_clause_fails, row_clause_is_marked, ended_is_unmet, row_clause_is_scheduled, row_clause_is_hinted}
 use Rattle.search_steps.proofs.IdLaws.{row_next_is_free}
 use Rattle.search_steps.proofs.LogLaws.{live_sum_keeps}
@@ -57,6 +59,7 @@ use Rattle.cdcl_core.specs.declared.shortening.Shortened.{Shortened}
 use Rattle.cdcl_core.specs.Shortening.{AreShort, ArePartedInto, EndsBy, EndsByRow, IsShortened, IsToldUnit, unit_parity_events, short_row_events}
 use Rattle.cdcl_core.specs.declared.shortening.UnitClause.{UnitClause}
 use Rattle.cdcl_core.proofs.ShortForms.{alone, clause_form, left_is_sum}
+use Rattle.cdcl_core.proofs.FewAdditions.{parities_of_units_add}
 
 -- ---- parts
 pub left_more : (lits left : List Literal) (units : List UnitClause) (l : Literal) → ArePartedInto lits left units → ArePartedInto (lits ++ l ∷ []) (left ++ l ∷ []) units
@@ -307,10 +310,17 @@ module _ (formula : Problem) (theirs : List (List Literal)) (marks k n : ℕ) (s
   end_for : EndsFor formula (all_told s1 both).events (negations left)
   end_for = record { ended = ended; last = λ apart. (s2.events, ClauseOfParity n zs (k + length units), refl, ap negations (sym left_back)) }
 
-  pub left_ends : (told_ : Option (List LogEvent)) → AreTold told_ s.events → IsEndedWith formula marks (negations left) (with_events (short_row_events k sources units left n) told_)
-  left_ends None a = tt
-  left_ends (Some es) a = subst (λ xs. IsEndedWith formula marks (negations left) (Some xs))
-      (ap (λ (x : Search). x.events) (sym (told_then (unit_parity_events k units) both s)) ∙ sym (all_told_are (short_row_events k sources units left n) s (Some es) a)) (end_for, is_marked, row_clause_is_scheduled formula theirs s2 s2_is n zs (k + length units), row_clause_is_hinted formula theirs s2 s2_is n zs (k + length units))
+  left_is_bounded : additions s.events + length units + 2 ≤ most_additions formula marks → IsBounded formula marks (all_told s1 both).events
+  left_is_bounded few =
+      let two : additions (all_told s1 both).events ≡ additions s1.events + 2 = told_adds s1 both in
+      let join = told_adds s (unit_parity_events k units) in
+      let parities = parities_of_units_add k units in
+      omega (arith, two, join, parities, few)
+
+  pub left_ends : additions s.events + length units + 2 ≤ most_additions formula marks → (told_ : Option (List LogEvent)) → AreTold told_ s.events → IsEndedWith formula marks (negations left) (with_events (short_row_events k sources units left n) told_)
+  left_ends few None a = tt
+  left_ends few (Some es) a = subst (λ xs. IsEndedWith formula marks (negations left) (Some xs))
+      (ap (λ (x : Search). x.events) (sym (told_then (unit_parity_events k units) both s)) ∙ sym (all_told_are (short_row_events k sources units left n) s (Some es) a)) (end_for, is_marked, row_clause_is_scheduled formula theirs s2 s2_is n zs (k + length units), row_clause_is_hinted formula theirs s2 s2_is n zs (k + length units), left_is_bounded few)
 
 -- ---- how many literals a row has
 rising_distinct : (least : ℕ) (vs : List ℕ) → Rises least vs → Distinct vs
@@ -353,13 +363,18 @@ module _ (formula : Problem) (c : SearchState) (e : State) (rows : List (List Li
         low [] w = tt
         low (l ∷ lits) w = (let high = w.0.1 in let same = t.trail.variables in omega (arith, high, same), low lits w.1)
 
-    pub short_by : length r.clause ≤ 268435455
-    short_by =
+    pub few_by : length r.clause ≤ formula.variables
+    few_by =
         let each = x.one_of_each.once in
         let written = written_length x.form r.parity x.written in
         let few = few_literals formula.variables r.parity x.written.rises (parity_within formula c e rows s t r x) in
+        omega (arith, each, written, few)
+
+    pub short_by : length r.clause ≤ 268435455
+    short_by =
+        let few = few_by in
         let vars = variables_are_few formula c e (first_row_id c.next) rows s t in
-        omega (arith, each, written, few, vars)
+        omega (arith, few, vars)
 
     pub clause_normal : normal_form r.clause ≡ sum_of (map normal_form (numbered e.parities r.sources))
     clause_normal = clause_form x.form formula.variables r.parity r.clause x.written.normal x.one_of_each (parity_within formula c e rows s t r x) (clause_within formula c e rows s t r x) x.follows ∙ x.sums

@@ -27,6 +27,7 @@ use Rattle.cx_semantics.specs.Ids.{highest_id}
 use Rattle.search_steps.specs.Ids.{IsRanged, ReasonsBelow, AreRowIds}
 use Rattle.search_steps.specs.Quiet.{HasTrue}
 use Rattle.search_steps.specs.Search.{Search, IsSearch, forced_on}
+use Rattle.search_steps.specs.Size.{additions}
 use Rattle.search_steps.specs.Tied.{IsTied, ForcesOn}
 use Rattle.search_steps.specs.Trail.{Entry, by_clause, held, level_of}
 use Rattle.search_steps.proofs.Bridge.{entry_last, entry_before, to_held, level_tied}
@@ -209,6 +210,7 @@ module _ (formula : Problem) (engines : List (List Literal)) (c : SearchState) (
       no_learned = ties.no_learned;
       no_reduction = ties.no_reduction;
       no_level = ties.no_level;
+      few_additions = ties.few_additions;
       served = ties.served;
     },
   )
@@ -231,6 +233,7 @@ module _ (formula : Problem) (engines : List (List Literal)) (c : SearchState) (
         free = next_is_free formula (first_row_id c.next) c.next (first_row_id c.next) search ties.ranged (omega arith);
         served = ties.served.served;
         conflicts = ties.no_conflict ∙ sym ties.conflicts;
+        few_additions = let told = ties.few_additions in let all = few_clauses formula.constraints in omega (arith, told, all);
       },
     ),
   )
@@ -299,6 +302,7 @@ module _ (formula : Problem) (engines : List (List Literal)) (c : SearchState) (
           no_learned = ties.no_learned;
           no_reduction = ties.no_reduction;
           no_level = ties.no_level;
+          few_additions = ties.few_additions;
           served = record { served = ties.served.served; old_clauses = ties.served.old_clauses; new_clauses = ties.served.new_clauses; old_sums = ties.served.old_sums; new_sums = ties.served.new_sums };
         },
       )
@@ -317,7 +321,10 @@ empty_is_id formula few c units number f =
     let all = few_clauses formula.constraints in
     (omega (arith, low), omega (arith, high, all, few))
 
-module _ (formula : Problem) (few : length formula.constraints ≤ 4294967295) (known : IsWithinVariables formula.variables formula.constraints) (engines : List (List Literal)) (told : Option (List LogEvent)) (b : HasGiven formula engines told) (c : SearchState) (units : List Single) where
+module _ (formula : Problem) (few : length formula.constraints ≤ 4294967295) (known : IsWithinVariables formula.variables formula.constraints) (engines : List (List Literal)) (short : length engines ≤ length formula.constraints) (told : Option (List LogEvent)) (b : HasGiven formula engines told) (c : SearchState) (units : List Single) where
+  given_adds_few : additions b.0.events ≤ length (clauses_of formula.constraints) + length formula.constraints
+  given_adds_few = let told = b.1.few_additions in omega (arith, told, short)
+
   room_then : length (clauses_of formula.constraints) + 1 ≤ highest_id
   room_then = let a = few_clauses formula.constraints in omega (arith, a, few)
 
@@ -399,6 +406,7 @@ module _ (formula : Problem) (few : length formula.constraints ≤ 4294967295) (
       no_learned = b.1.no_learned;
       no_reduction = ap (λ r. if r then b.0.moment.reductions + 1 else b.0.moment.reductions) b.1.not_reducing ∙ b.1.no_reduction;
       no_level = b.1.no_level;
+      few_additions = given_adds_few;
       served = record { served = b.1.tidy.served; old_clauses = b.1.tidy.no_old_clauses; new_clauses = b.1.tidy.no_new_clauses; old_sums = b.1.tidy.no_old_sums; new_sums = b.1.tidy.no_new_sums };
     },
   )
@@ -418,6 +426,7 @@ module _ (formula : Problem) (few : length formula.constraints ≤ 4294967295) (
         free = ap (get b.0.moment.tables.clauses) f.next ∙ b.1.no_more (length (clauses_of formula.constraints) + 1) (omega arith);
         served = b.1.tidy.served;
         conflicts = b.1.no_conflict ∙ sym f.conflicts;
+        few_additions = let told = given_adds_few in let all = few_clauses formula.constraints in omega (arith, told, all);
       },
     ),
   )
@@ -498,6 +507,7 @@ module _ (formula : Problem) (engines : List (List Literal)) (c : SearchState) (
           numbered = st.3.parities.numbered;
           rows_told = λ i less. absurd (omega (arith, less));
           few_rows = omega arith;
+          few_additions = let told = st.3.few_additions in let next = st.3.next in omega (arith, told, next);
           none_at_0 = st.3.clauses.none_before;
           served = st.3.served;
         });

@@ -1,5 +1,5 @@
 -- What a conflict comes to.
-use Rattle.std.specs.Prelude.{◌≡◌, ℕ, ◌+◌, ◌<◌, ◌≤◌, ℤ, List, [], ◌∷◌, length, Option, Some, None, Result, OnOk, IfOk, IsFalse, IsTrue, ◌≢◌}
+use Rattle.std.specs.Prelude.{◌≡◌, ℕ, ◌+◌, ◌*◌, ◌<◌, ◌≤◌, ℤ, List, [], ◌∷◌, length, Option, Some, None, Result, OnOk, IfOk, IsFalse, IsTrue, ◌≢◌}
 use Rattle.std.specs.List.{AllByRecursion}
 use Rattle.cx_base.specs.Assumptions.{clashes, IsFailed}
 use Rattle.cx_base.specs.Problem.{Problem, Unmet}
@@ -17,6 +17,7 @@ use Rattle.search_steps.specs.Holding.{AreTold}
 use Rattle.search_steps.specs.Hints.{AreHintsFor, AreHinted}
 use Rattle.search_steps.specs.Schedule.{IsScheduled}
 use Rattle.search_steps.specs.Search.{Search, IsSearch}
+use Rattle.search_steps.specs.Size.{additions, IsBounded}
 use Rattle.cx_trail.specs.Sequence.{IsFalseIn}
 use Rattle.step_text.specs.declared.sink.Sink as sink
 use Rattle.parity_engine.specs.declared.engine.ParityEngine as engine
@@ -49,10 +50,10 @@ pub record IsAtConflict {P L : Type 0} (p : engine.Ghosts P) (m : sink.Ghosts L 
   pub conflict : IsConflictClause c rows clause n
   pub above : 0 < c.trail.level
 
--- the log is ended with these failed assumptions, and marked this often, learned clauses are deleted on schedule, and the hints are right
+-- the log is ended with these failed assumptions, and marked this often, learned clauses are deleted on schedule, the hints are right, and it adds few clauses and parities for its marks
 abbrev pub IsEndedWith : Problem → ℕ → List Literal → Option (List LogEvent) → Type 0
 IsEndedWith formula marks failed None = Unit {0}
-IsEndedWith formula marks failed (Some events) = EndsFor formula events failed × Marked formula events marks × IsScheduled events × AreHinted events
+IsEndedWith formula marks failed (Some events) = EndsFor formula events failed × Marked formula events marks × IsScheduled events × AreHinted events × IsBounded formula marks events
 
 -- telling these steps ends the log, with these failed assumptions; so no values meet the formula
 pub record EndsLog (formula : Problem) (marks : ℕ) (told : Option (List LogEvent)) (failed : List Literal) (steps : List LogStep) : Type 0 where
@@ -122,6 +123,7 @@ pub record IsContradicted (formula : Problem) (c : SearchState) (lits : List Lit
   pub free : get s.moment.tables.clauses c.next ≡ None
   pub served : IsFalse s.moment.awaits
   pub conflicts : s.conflicts ≡ c.conflicts
+  pub few_additions : additions s.events ≤ 2 * length formula.constraints
 
 -- so it is after what was told
 abbrev pub IsRefutable : Problem → SearchState → List Literal → ℕ → Option (List LogEvent) → Type 0

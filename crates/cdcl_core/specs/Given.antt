@@ -1,5 +1,5 @@
 -- What the engine is given: the formula's parities, and after them those that are recovered from its clauses.
-use Rattle.std.specs.Prelude.{◌≡◌, ℕ, ◌<◌, ◌≤◌, false, List, [], length, None, Option}
+use Rattle.std.specs.Prelude.{◌≡◌, ℕ, ◌+◌, ◌<◌, ◌≤◌, false, List, [], length, None, Option}
 use Rattle.std.specs.List.{AllByRecursion}
 use Rattle.cx_base.specs.Literals.{Literal}
 use Rattle.cx_base.specs.Problem.{Problem, AreWithin, clauses_of}
@@ -9,6 +9,7 @@ use Rattle.search_steps.specs.Holding.{AreTold}
 use Rattle.search_steps.specs.Ids.{HasFreeSums}
 use Rattle.search_steps.specs.Laws.{HaveTheirs}
 use Rattle.search_steps.specs.Search.{Search, IsSearch, IsTidy}
+use Rattle.search_steps.specs.Size.{additions}
 use Rattle.cdcl_core.specs.Originals.{AreListedFromOne}
 
 -- The formula's clauses and these parities are under their numbers, nothing else is told, and no literal is on the trail.
@@ -25,6 +26,7 @@ pub record IsGiven (formula : Problem) (parities : List (List Literal)) (s : Sea
   pub no_reduction : s.moment.reductions ≡ 0
   pub not_reducing : s.moment.reduces ≡ false
   pub tidy : IsTidy s
+  pub few_additions : additions s.events ≤ length (clauses_of formula.constraints) + length parities
 
 -- the log has the formula's constraints, and after its parities the others of these
 abbrev pub HasGiven : Problem → List (List Literal) → Option (List LogEvent) → Type 0

@@ -12,6 +12,7 @@ use Rattle.cx_semantics.specs.Marked.{Marked}
 use Rattle.search_steps.specs.LogSteps.{IsEnded, LastRefutes}
 use Rattle.search_steps.specs.Hints.{AreHinted}
 use Rattle.search_steps.specs.Schedule.{IsScheduled}
+use Rattle.search_steps.specs.Size.{IsBounded}
 use Rattle.cdcl_core.specs.declared.solving.SearchOutcome.{SearchOutcome}
 use Rattle.cdcl_core.specs.declared.solving.SearchOutcome.TheVariants.{Sat, Unsat, Unknown}
 
@@ -20,10 +21,10 @@ abbrev pub IsFresh : Option (List LogEvent) → Type 0
 IsFresh None = Unit {0}
 IsFresh (Some events) = events ≡ []
 
--- the log is open and has this many marks, learned clauses are deleted on schedule, and the hints are right
+-- the log is open and has this many marks and few additions for them, learned clauses are deleted on schedule, and the hints are right
 abbrev pub IsOpenWith : Problem → ℕ → Option (List LogEvent) → Type 0
 IsOpenWith formula n None = Unit {0}
-IsOpenWith formula n (Some events) = IsOpen (log_calculus formula) (steps_of events) × Marked formula events n × IsScheduled events × AreHinted events
+IsOpenWith formula n (Some events) = IsOpen (log_calculus formula) (steps_of events) × Marked formula events n × IsScheduled events × AreHinted events × IsBounded formula n events
 
 -- the log is open and has fewer marks than the budget
 abbrev pub IsOpenWithin : Problem → ℕ → Option (List LogEvent) → Type 0
@@ -34,10 +35,10 @@ pub record EndsFor (formula : Problem) (events : List LogEvent) (failed : List L
   pub ended : IsEnded formula events
   pub last : IsFalse (clashes formula.constraints) → LastRefutes events failed
 
--- the log is ended with these failed assumptions, has fewer marks than the budget, learned clauses are deleted on schedule, and the hints are right
+-- the log is ended with these failed assumptions, has fewer marks than the budget and few additions for them, learned clauses are deleted on schedule, and the hints are right
 abbrev pub IsEndedWithin : Problem → ℕ → List Literal → Option (List LogEvent) → Type 0
 IsEndedWithin formula budget failed None = Unit {0}
-IsEndedWithin formula budget failed (Some events) = EndsFor formula events failed × ((n : ℕ) × (n < budget) × Marked formula events n) × IsScheduled events × AreHinted events
+IsEndedWithin formula budget failed (Some events) = EndsFor formula events failed × ((n : ℕ) × (n < budget) × Marked formula events n × IsBounded formula n events) × IsScheduled events × AreHinted events
 
 -- both literals of the least variable that is assumed with both signs
 abbrev pub AreBothOfClash : List Constraint → List Literal → Type 0

@@ -10,6 +10,7 @@ use Rattle.search_policy.specs.Standing.{AllStand}
 use Rattle.search_steps.specs.Holding.{AreTold}
 use Rattle.search_steps.specs.Ids.{IsRanged, HasFreeSums}
 use Rattle.search_steps.specs.Search.{Search, IsSearch}
+use Rattle.search_steps.specs.Size.{additions}
 use Rattle.search_steps.specs.Tied.{Mirrors}
 use Rattle.search_steps.specs.Trail.{held}
 use Rattle.step_text.specs.declared.sink.Sink as sink
@@ -58,6 +59,7 @@ pub record TiesBut (formula : Problem) (engines : List (List Literal)) (c : Sear
   pub no_learned : s.moment.learned ≡ []
   pub no_reduction : stretches s.moment ≡ 0
   pub no_level : s.quiet_levels ≡ 0
+  pub few_additions : additions s.events ≤ length (clauses_of formula.constraints) + length formula.constraints
   pub served : HasOnlyRowClauses s (first_row_id c.next) 0
 
 -- some search of the calculus over these parities fits the code but for these unit clauses, and its events are the sink's where that tells them

@@ -77,6 +77,7 @@ module _ (formula : Problem) (c : SearchState) (e : State) (s : Search) (ok : Is
               numbered = t.log.numbered;
               rows_told = t.log.rows_told;
               few_rows = t.log.few_rows;
+              few_additions = t.log.few_additions;
               none_at_0 = t.log.none_at_0;
               served = served_alike s (decided_on s l) (first_row_id c.next) 0 refl t.log.served;
             };

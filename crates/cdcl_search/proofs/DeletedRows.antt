@@ -17,8 +17,10 @@ use Rattle.search_steps.specs.Search.{Search, IsSearch, told}
 use Rattle.search_steps.specs.LogSteps.{AreTemporary, deleted, all_told}
 use Rattle.search_steps.specs.Holding.{AreTold}
 use Rattle.search_steps.specs.Ids.{IsRanged}
+use Rattle.search_steps.specs.Size.{HasFewAdditions}
 use Rattle.search_steps.proofs.Rounds.{deleted_keeps, temporary_still, deleted_trail, deleted_levels, deleted_conflicts, deleted_awaits, deleted_old_sums, deleted_new_sums, deleted_parities, deleted_old, deleted_get}
 use Rattle.search_steps.proofs.RowReasons.{all_deleted}
+use Rattle.search_steps.proofs.SizeLaws.{deletions_add_none}
 use Rattle.search_steps.proofs.IdLaws.{row_ids_are_temporary, deletions_ranged, risen_ranged, low_is_no_row}
 use Rattle.std.specs.Prelude.{if◌then◌else◌}
 use Rattle.cdcl_search.specs.declared.state.SearchState.{SearchState}
@@ -81,7 +83,7 @@ temporary_stretches formula s (n ∷ ids) t =
     ∙ ap (λ b. if b then m.reductions + 1 else m.reductions) (ap (λ b. m.reduces || (b && not (is_covered_without m.tables.clauses n (clause_at m.tables.clauses n)))) t.0.1 ∙ or_none m.reduces)
 
 -- ---- the ties
-module _ (formula : Problem) (c : SearchState) (e : State) (first : ℕ) (near : first ≤ first_row_id c.next) (rows : List (List Literal)) (s : Search) (ok : IsSearch formula e.parities s) (t : TiesFrom formula c e first rows s) where
+module _ (formula : Problem) (c : SearchState) (e : State) (first : ℕ) (rows : List (List Literal)) (near : first + length rows ≤ first_row_id c.next) (s : Search) (ok : IsSearch formula e.parities s) (t : TiesFrom formula c e first rows s) where
   abbrev ids : List ℕ
   ids = s.moment.new_clauses
 
@@ -102,10 +104,14 @@ module _ (formula : Problem) (c : SearchState) (e : State) (first : ℕ) (near :
 
   ranged_then : IsRanged formula (first_row_id c.next) c.next (first_row_id c.next + 0) after.trail after.moment
   ranged_then = subst (λ r. IsRanged formula (first_row_id c.next) c.next r after.trail after.moment) (let z : first_row_id c.next ≡ first_row_id c.next + 0 = omega arith in z)
-      (risen_ranged formula first c.next (first + length rows) after (deletions_ranged formula first c.next (first + length rows) s ids t.log.ranged) (first_row_id c.next) near none_new none_old)
+      (risen_ranged formula first c.next (first + length rows) after (deletions_ranged formula first c.next (first + length rows) s ids t.log.ranged) (first_row_id c.next) (omega (arith, near)) none_new none_old)
 
   answers_below_next : AnswersBelow c.next s.moment.tables.clauses after.moment.tables.clauses
   answers_below_next m low = answers m (let room = t.log.ranged.room in omega (arith, low, room))
+
+  few_then : HasFewAdditions formula c.next (first_row_id c.next) 0 after
+  few_then = subst (λ k. HasFewAdditions formula c.next (first_row_id c.next) 0 (record after { conflicts = k })) (sym (deleted_conflicts s ids))
+      (let was = t.log.few_additions in let same = deletions_add_none s ids in omega (arith, was, same, near))
 
   ties_then : Ties formula c e [] after
   ties_then = record {
@@ -115,6 +121,7 @@ module _ (formula : Problem) (c : SearchState) (e : State) (first : ℕ) (near :
       numbered = subst (λ table. AreNumbered table e.parities) (sym (deleted_parities s ids)) t.log.numbered;
       rows_told = λ i h. absurd (omega (arith, h));
       few_rows = omega arith;
+      few_additions = few_then;
       none_at_0 = answers_below_next 0 (let some = t.log.ranged.originals in omega (arith, some)) ∙ t.log.none_at_0;
       served = record {
         served = deleted_awaits s ids ∙ t.log.served.served;
@@ -150,7 +157,7 @@ module _ (formula : Problem) (c : SearchState) (e : State) (first : ℕ) (near :
 
 -- ---- what telling the deletions leaves
 -- the deletions of all clauses of rows leave a search that fits
-pub rows_deleted : (formula : Problem) (c : SearchState) (e : State) (rows : List (List Literal)) (old : Option (List LogEvent)) → SearchStandsFrom formula c e c.next rows old → (events : List LogEvent) → events ≡ deletions (row_ids c.next (length rows))
+pub rows_deleted : (formula : Problem) (c : SearchState) (e : State) (rows : List (List Literal)) (old : Option (List LogEvent)) → SearchStandsFrom formula c e c.next rows old → length rows ≤ 1 → (events : List LogEvent) → events ≡ deletions (row_ids c.next (length rows))
     → SearchStands formula c e [] (with_events events old)
-rows_deleted formula c e rows old st events are =
-    subst (SearchStands formula c e []) (sym (ap (λ es. with_events es old) (are ∙ ap deletions (sym st.3.log.served.new_clauses)))) (stands_then formula c e c.next (omega arith) rows st.0 st.1 st.3 old st.2 st.4)
+rows_deleted formula c e rows old st few events are =
+    subst (SearchStands formula c e []) (sym (ap (λ es. with_events es old) (are ∙ ap deletions (sym st.3.log.served.new_clauses)))) (stands_then formula c e c.next rows (omega (arith, few)) st.0 st.1 st.3 old st.2 st.4)

@@ -28,12 +28,14 @@ use Rattle.xor_reason.proofs.ClauseLaws.{contains_written, has_written}
 use Rattle.search_steps.specs.Search.{Search, IsSearch, told}
 use Rattle.search_steps.specs.LogSteps.{IsAddition, IsRowOf, IsClauseOfRow, IsRowReason, row_events, all_told}
 use Rattle.search_steps.specs.Holding.{AreTold}
+use Rattle.search_steps.specs.Size.{HasFewAdditions, additions}
 use Rattle.search_steps.specs.Trail.{held}
 use Rattle.search_steps.proofs.StartLaws.{variables_are_within}
 use Rattle.search_steps.proofs.LogLaws.{sum_keeps}
 use Rattle.search_steps.proofs.RowReasons.{row_reason_keeps, row_reason_sums, row_reason_old_sums}
 use Rattle.search_steps.proofs.IdLaws.{row_next_is_free, row_reason_ranged, row_reason_frees_sum}
 use Rattle.search_steps.proofs.EndLaws.{is_log_open}
+use Rattle.search_steps.proofs.SizeLaws.{told_adds}
 use Rattle.cx_semantics.proofs.Members.{has_at_head, has_behind}
 use Rattle.cx_semantics.proofs.Widths.{variable_in}
 use Rattle.cdcl_search.specs.declared.state.SearchState.{SearchState}
@@ -216,6 +218,13 @@ module _ (formula : Problem) (c : SearchState) (e : State) (rows : List (List Li
       new_sums = row_reason_sums formula theirs s k rs r.sources n zs reason_is t.log.served.new_sums;
     }
 
+    few_still : HasFewAdditions formula c.next (first_row_id c.next) (length (rows ++ r.clause ∷ [])) (all_told s steps)
+    few_still =
+        let was = t.log.few_additions in
+        let long = one_longer in
+        let two : additions (all_told s steps).events ≡ additions s.events + 2 = told_adds s steps in
+        omega (arith, was, long, two)
+
     ties_still : Ties formula c e (rows ++ r.clause ∷ []) (all_told s steps)
     ties_still = record {
       log = record {
@@ -225,6 +234,7 @@ module _ (formula : Problem) (c : SearchState) (e : State) (rows : List (List Li
         numbered = numbered_still;
         rows_told = rows_more;
         few_rows = let long = one_longer in omega (arith, long, room);
+        few_additions = few_still;
         none_at_0 = put_other s.moment.tables.clauses n 0 (literals zs) (λ same. omega (arith, same)) ∙ t.log.none_at_0;
         served = served_still;
       };

@@ -28,6 +28,7 @@ use Rattle.parity_engine.specs.State.{State}
 use Rattle.search_steps.specs.Engine.{HoldsValues}
 use Rattle.search_steps.specs.Hints.{AreHintsFor}
 use Rattle.search_steps.specs.Ids.{IsRanged}
+use Rattle.search_steps.specs.Size.{HasFewAdditions, additions}
 use Rattle.search_steps.specs.LogSteps.{IsAddition, RestOnClauses, unit_told}
 use Rattle.search_steps.specs.Search.{Search, IsSearch, told}
 use Rattle.search_steps.specs.Tied.{IsTied, ForcesOn}
@@ -35,6 +36,7 @@ use Rattle.search_steps.specs.Trail.{Entry, rests_on, by_clause, held, all_held,
 use Rattle.search_steps.proofs.Bridge.{to_held}
 use Rattle.search_steps.proofs.CodeSteps.{forces_by}
 use Rattle.search_steps.proofs.IdLaws.{next_is_free, clause_ranged, rest_ranged}
+use Rattle.search_steps.proofs.SizeLaws.{additions_join}
 use Rattle.conflict_learn.proofs.ChainOfResolutions.{by_cases}
 use Rattle.search_steps.proofs.StartLaws.{variables_are_within}
 use Rattle.search_steps.proofs.UnitLaws.{held_same, level_same}
@@ -332,6 +334,12 @@ module _ (formula : Problem) (c : SearchState) (e : State) (rows : List (List Li
     rows_still : AreRows table next rows
     rows_still i less = put_other s.moment.tables.clauses c.next (next + i) (literal (integer_of l) ∷ []) (λ same. omega (arith, same, next_is)) ∙ ap (λ k. get s.moment.tables.clauses (k + i)) next_is ∙ t.log.rows_told i less
 
+    few_then : HasFewAdditions formula next next (length rows) after
+    few_then =
+        let was = t.log.few_additions in
+        let one : additions after.events ≡ additions s.events + 1 = additions_join s.events (Step (ClauseWithHints c.next (integer_of l ∷ []) hints) ∷ []) in
+        omega (arith, was, one, next_is)
+
     -- the ids of the clauses of rows begin at the next one now
     pub unit_ties : TiesFrom formula d e next rows after
     unit_ties = record {
@@ -341,6 +349,7 @@ module _ (formula : Problem) (c : SearchState) (e : State) (rows : List (List Li
         numbered = t.log.numbered;
         rows_told = rows_still;
         few_rows = t.log.few_rows;
+        few_additions = few_then;
         none_at_0 = put_other s.moment.tables.clauses c.next 0 (literal (integer_of l) ∷ []) (λ same. let some = t.log.ranged.originals in omega (arith, same, some)) ∙ t.log.none_at_0;
         served = record { served = refl; old_clauses = t.log.served.old_clauses; new_clauses = t.log.served.new_clauses ∙ ap (λ k. row_ids k (length rows)) (sym next_is); old_sums = t.log.served.old_sums; new_sums = t.log.served.new_sums };
       };

@@ -20,6 +20,7 @@ use Rattle.search_steps.specs.Trail.{Entry, held, level_of, by_clause}
 use Rattle.search_steps.specs.Quiet.{HasTrue}
 use Rattle.search_steps.specs.Search.{Search, IsSearch}
 use Rattle.search_steps.specs.Ids.{IsRanged, HasFreeSums}
+use Rattle.search_steps.specs.Size.{HasFewAdditions}
 use Rattle.search_steps.specs.Tied.{Mirrors}
 use Rattle.search_steps.specs.Engine.{HoldsValues}
 pub use Rattle.search_steps.specs.Hints.{IsNamedBy}
@@ -61,6 +62,7 @@ pub record LogTies (formula : Problem) (parities : List (List Literal)) (next fi
   pub numbered : AreNumbered s.moment.tables.parities parities
   pub rows_told : AreRows s.moment.tables.clauses first rows
   pub few_rows : length rows ≤ formula.variables + 1
+  pub few_additions : HasFewAdditions formula next first (length rows) s
   pub none_at_0 : get s.moment.tables.clauses 0 ≡ None
   pub served : HasOnlyRowClauses s first (length rows)
 

@@ -1,5 +1,5 @@
 //! Deleting the clauses of rows.
-ghost use Rattle.std.specs.Prelude.{◌≡◌, ◌≤◌, [], ◌++◌, OnOk, IfOk};
+ghost use Rattle.std.specs.Prelude.{◌≡◌, ◌≤◌, [], ◌++◌, length, OnOk, IfOk};
 ghost use Rattle.std.specs.List.{AllByRecursion};
 ghost use Rattle.cdcl_search.specs.Calls.{StandsOn};
 ghost use Rattle.cdcl_search.specs.Deleting.{deletions};
@@ -46,7 +46,7 @@ fn deletions_of_rows(alloc: Global, first: u64, count: usize) -> Result<Vec<LogS
     Ok(steps)
 }
 
-/// Deletes the clauses of rows that were told for the last clause that stays: their ids follow its own.
+/// Deletes the clause of a row that was told for the last clause that stays, where there is one: its id follows that one's.
 pub(crate) fn delete_rows<P: ParityEngine, L: Sink<Item = LogEvent>>(
     log: &mut SearchLog<L>,
     state: &SearchState,
@@ -54,6 +54,7 @@ pub(crate) fn delete_rows<P: ParityEngine, L: Sink<Item = LogEvent>>(
     rows: &[LitList],
 ) -> Result<(), CoreFault>
     requires stands { StandsBeforeDeletion P.ParityEngine L.Sink log.old state.now engine.now rows.now }
+    requires few { length rows.now ≤ 1 }
     requires going { HasNotFailed L.Sink log.old }
     ensures { StandsOn P.ParityEngine L.Sink log.old log.new state.now engine.now [] result }
 {

@@ -28,3 +28,4 @@ pub mod Reasons
 pub mod ScheduleLaws
 pub mod HintLaws
 pub mod TidyLineLaws
+pub mod SizeLaws

@@ -43,6 +43,7 @@ use Rattle.search_steps.specs.Start.{IsBegun, start}
 use Rattle.search_steps.specs.Tied.{IsTied, AreForcedBehind, IsLiveSet, IsLiveOr, Mirrors, ForcesOn, IsQuietOn, AreOthersFalseOn, IsFalsifiedOn}
 use Rattle.cx_base.specs.Lines.{Line}
 use Rattle.search_steps.specs.TidyLines.{TidiedInTime, LineFits, marks_in, tidy_lines_in}
+use Rattle.search_steps.specs.Size.{additions}
 use Rattle.search_steps.specs.Trail.{Entry, by_clause, by_row, rests_on, held, all_held, back_to, level_of, IsUnassigned, Forces}
 
 -- a law of each search that holds
@@ -460,6 +461,14 @@ RecoveredTakesOne =
 abbrev pub SumsAreFreeAgain : Type 0
 SumsAreFreeAgain =
     (count : ℕ) (s : Search) (k : ℕ) (rs : List ℤ) (ids : List ℕ) (n : ℕ) (zs : List ℤ) → HasFreeSums count s.moment → HasFreeSums count (all_told s (row_events k rs ids n zs)).moment
+
+-- ---- the length of a log
+-- the reason of a row adds a sum and a clause, deletions add nothing, and a counted conflict adds its clause
+abbrev pub StepsAddFew : Type 0
+StepsAddFew = (s : Search) →
+    ((k : ℕ) (rs : List ℤ) (ids : List ℕ) (n : ℕ) (zs : List ℤ) → additions (all_told s (row_events k rs ids n zs)).events ≡ additions s.events + 2)
+    × ((ids : List ℕ) → additions (deleted s ids).events ≡ additions s.events)
+    × ((n : ℕ) (zs hints : List ℤ) (back : ℕ) (l : Literal) → additions (after_round s n zs hints back l).events ≡ additions s.events + 1)
 
 -- ---- tidy lines
 -- one more line that fits

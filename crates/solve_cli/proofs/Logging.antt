@@ -22,6 +22,7 @@ use Rattle.cx_texts.proofs.PrintedLogs.{printed_log_reads}
 use Rattle.search_steps.specs.LogSteps.{IsEnded}
 use Rattle.search_steps.specs.Hints.{AreHinted}
 use Rattle.search_steps.specs.Schedule.{IsScheduled}
+use Rattle.search_steps.specs.Size.{IsBounded}
 use Rattle.cx_desk.specs.Outside.{Bytes}
 use Rattle.solve_cli.specs.Logs.{HasFewMarks, HasOnlyLowIds, IsRefutation, IsSpentLog, HasNoMark, IsLogSoFar}
 
@@ -47,21 +48,22 @@ refutation f events texts (inr ended) = record {
   last = λ apart. refl;
 }
 
-pub spent : (f : Problem) (events : List LogEvent) (n : ℕ) → AllByRecursion HasText events → AllByRecursion HasLowId events → IsOpen (log_calculus f) (steps_of events) → Marked f events n → IsScheduled events → AreHinted events → IsSpentLog f n (printed_log events)
-spent f events n texts low runs marked scheduled hinted = record {
+pub spent : (f : Problem) (events : List LogEvent) (n : ℕ) → AllByRecursion HasText events → AllByRecursion HasLowId events → IsOpen (log_calculus f) (steps_of events) → Marked f events n → IsScheduled events → AreHinted events → IsBounded f n events → IsSpentLog f n (printed_log events)
+spent f events n texts low runs marked scheduled hinted few = record {
   marked = record { is_open = open_log f events texts runs; events = events; read = printed_log_reads events texts; marked = marked };
   ids = (events, printed_log_reads events texts, low);
   scheduled = (events, printed_log_reads events texts, scheduled);
   hinted = (events, printed_log_reads events texts, hinted);
+  bounded = (events, printed_log_reads events texts, few);
 }
 
 no_marks : (n : ℕ) → range_with_len 1 n ≡ [] → n ≡ 0
 no_marks zero e = refl
 no_marks (suc n) e = cc
 
-pub few_marks : (f : Problem) (budget : ℕ) (events : List LogEvent) (n : ℕ) → AllByRecursion HasText events → AllByRecursion HasLowId events → n < budget → Marked f events n → IsScheduled events → AreHinted events → (SettledWithRecovered f → filter_map mark_of events ≡ [])
+pub few_marks : (f : Problem) (budget : ℕ) (events : List LogEvent) (n : ℕ) → AllByRecursion HasText events → AllByRecursion HasLowId events → n < budget → Marked f events n → IsScheduled events → AreHinted events → IsBounded f n events → (SettledWithRecovered f → filter_map mark_of events ≡ [])
     → HasFewMarks f budget (printed_log events)
-few_marks f budget events n texts ids low marked scheduled hinted none = record {
+few_marks f budget events n texts ids low marked scheduled hinted bounded none = record {
   events = events;
   read = printed_log_reads events texts;
   count = n;
@@ -69,6 +71,7 @@ few_marks f budget events n texts ids low marked scheduled hinted none = record 
   ids = ids;
   scheduled = scheduled;
   hinted = hinted;
+  bounded = bounded;
   few = low;
   settled = λ s. no_marks n (sym marked.marks ∙ none s);
 }

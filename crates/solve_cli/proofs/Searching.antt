@@ -38,7 +38,7 @@ pub finds_values : (f : Problem) (budget : ℕ) (events : List LogEvent) (v : _)
     → ComesTo f budget events (ending.Satisfiable v)
 finds_values f budget events v texts ids h none = (
   h.meets,
-  record { is_open = open_log f events texts h.log.2.0; marks = few_marks f budget events h.log.0 texts ids h.log.1 h.log.2.1 h.log.2.2 h.log.2.3 none },
+  record { is_open = open_log f events texts h.log.2.0; marks = few_marks f budget events h.log.0 texts ids h.log.1 h.log.2.1 h.log.2.2 h.log.2.3 h.log.2.4 none },
 )
 
 pub finds_none : (f : Problem) (budget : ℕ) (events : List LogEvent) (failed : List Literal) (told : Option (List ℤ)) → AreInOrder f failed told → AllByRecursion HasText events → AllByRecursion HasLowId events
@@ -46,13 +46,13 @@ pub finds_none : (f : Problem) (budget : ℕ) (events : List LogEvent) (failed :
 finds_none f budget events failed told order texts ids h none = (
   h.unmet,
   fails_as f budget failed told (Some events) h order,
-  record { refutes = refutation f events texts h.log.0.ended; marks = few_marks f budget events h.log.1.0 texts ids h.log.1.1 h.log.1.2 h.log.2 h.log.3 none },
+  record { refutes = refutation f events texts h.log.0.ended; marks = few_marks f budget events h.log.1.0 texts ids h.log.1.1 h.log.1.2 h.log.2 h.log.3 h.log.1.3 none },
   negates_last f budget failed told events texts h.log.0 order,
 )
 
 pub finds_nothing : (f : Problem) (budget : ℕ) (events : List LogEvent) (k : ℕ) → AllByRecursion HasText events → AllByRecursion HasLowId events → UsesUp f budget (Some events) k → (SettledWithRecovered f → (n : ℕ) → answer.Unknown k ≢ answer.Unknown n)
     → ComesTo f budget events (ending.Unknown k)
-finds_nothing f budget events k texts ids h never = (h.count, λ s. never s k refl, spent f events budget texts ids h.log.0 h.log.1 h.log.2 h.log.3)
+finds_nothing f budget events k texts ids h never = (h.count, λ s. never s k refl, spent f events budget texts ids h.log.0 h.log.1 h.log.2 h.log.3 h.log.4)
 
 -- what an answer of the search ends in is what it came to
 pub finds : (f : Problem) (budget : ℕ) (events : List LogEvent) (r : Result Answer CoreFault) (x : Result Ending Outcome) → AnswersAs f r x → AllByRecursion HasText events → AllByRecursion HasLowId events → IfOk r (λ a. IsRightOutcome f budget (Some events) a)

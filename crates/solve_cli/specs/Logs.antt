@@ -13,9 +13,10 @@ use Rattle.cx_semantics.specs.Marked.{Marked, mark_of}
 use Rattle.search_steps.specs.Recovering.{SettledWithRecovered}
 use Rattle.search_steps.specs.Hints.{AreHinted}
 use Rattle.search_steps.specs.Schedule.{IsScheduled}
+use Rattle.search_steps.specs.Size.{IsBounded}
 use Rattle.cx_desk.specs.Outside.{Bytes}
 
--- The log is marked fewer times than the budget, and never where propagation settles the formula; its ids are low, learned clauses are deleted on schedule, and the hints of its clauses are right.
+-- The log is marked fewer times than the budget, and never where propagation settles the formula; its ids are low, learned clauses are deleted on schedule, the hints of its clauses are right, and it adds few clauses and parities for its marks.
 pub record HasFewMarks (formula : Problem) (budget : ℕ) (log : Bytes) : Type 0 where
   pub events : List LogEvent
   pub read : EventsRead log events finished
@@ -24,6 +25,7 @@ pub record HasFewMarks (formula : Problem) (budget : ℕ) (log : Bytes) : Type 0
   pub ids : AllByRecursion HasLowId events
   pub scheduled : IsScheduled events
   pub hinted : AreHinted events
+  pub bounded : IsBounded formula count events
   pub few : count < budget
   pub settled : SettledWithRecovered formula → count ≡ 0
 
@@ -61,12 +63,17 @@ HasSchedule log = (events : List LogEvent) × EventsRead log events finished × 
 abbrev pub HasRightHints : Bytes → Type 0
 HasRightHints log = (events : List LogEvent) × EventsRead log events finished × AreHinted events
 
+-- the log adds few clauses and parities for so many marks
+abbrev pub HasBound : Problem → ℕ → Bytes → Type 0
+HasBound formula marks log = (events : List LogEvent) × EventsRead log events finished × IsBounded formula marks events
+
 -- before the answer that the budget is spent
 pub record IsSpentLog (formula : Problem) (budget : ℕ) (log : Bytes) : Type 0 where
   pub marked : Budgeted formula log budget
   pub ids : HasOnlyLowIds log
   pub scheduled : HasSchedule log
   pub hinted : HasRightHints log
+  pub bounded : HasBound formula budget log
 
 -- the bytes are a prefix of a log all of whose steps are right and have low ids; where propagation settles the formula, it has no mark
 pub record IsLogSoFar (formula : Problem) (bytes : Bytes) : Type 0 where

@@ -11,7 +11,7 @@ use Rattle.cdcl_core.proofs.beginning.start.Goals as goal
 
 pub refute-requires-clause-shown : goal.refute-requires-clause-shown
 refute-requires-clause-shown g c =
-    empty_is_refutable c.args.log.now.formula.now c.requires.few c.vars-vars.ensures.within c.args.parities (g.L.Sink.items c.args.log.now.sink.now) c.requires.given c.args.filled.now.state c.args.filled.now.units.items c.in-Some.number
+    empty_is_refutable c.args.log.now.formula.now c.requires.few c.vars-vars.ensures.within c.args.parities c.requires.engines.few (g.L.Sink.items c.args.log.now.sink.now) c.requires.given c.args.filled.now.state c.args.filled.now.units.items c.in-Some.number
     (subst (IsFilled c.args.log.now.formula.now c.args.filled.now.state c.args.filled.now.units.items) c.in-Some.is c.requires.filled)
 
 pub refute-requires-clause-units : goal.refute-requires-clause-units
@@ -25,7 +25,7 @@ pub put_units-requires-clause-stands : goal.put_units-requires-clause-stands
 put_units-requires-clause-stands g c = (
   c.args.parities,
   subst (λ us. SearchStandsBut c.args.log.now.formula.now c.args.parities c.args.filled.now.state us (g.L.Sink.items c.args.log.now.sink.now)) (sym c.deref.ensures.value)
-      (filled_stands c.args.log.now.formula.now c.requires.few c.vars-vars.ensures.within c.args.parities (g.L.Sink.items c.args.log.now.sink.now) c.requires.given c.args.filled.now.state c.args.filled.now.units.items
+      (filled_stands c.args.log.now.formula.now c.requires.few c.vars-vars.ensures.within c.args.parities c.requires.engines.few (g.L.Sink.items c.args.log.now.sink.now) c.requires.given c.args.filled.now.state c.args.filled.now.units.items
       (subst (IsFilled c.args.log.now.formula.now c.args.filled.now.state c.args.filled.now.units.items) c.in_default.is c.requires.filled)),
 )
 
@@ -41,7 +41,7 @@ returns-clause-begins g c =
     c.in_ok-engine.ensures.1 ∙ ap (λ n. fresh n engines rows) (c.vars-vars.ensures.variables ∙ sym (ap (λ (f : Problem). f.variables) same)) in
     let before : SearchStandsBut c.args.log.now.formula.now engines c.args.filled.now.state c.deref.result.now (g.L.Sink.items c.args.log.now.sink.now) =
     subst (λ us. SearchStandsBut c.args.log.now.formula.now engines c.args.filled.now.state us (g.L.Sink.items c.args.log.now.sink.now)) (sym c.deref.ensures.value)
-    (filled_stands c.args.log.now.formula.now c.requires.few c.vars-vars.ensures.within engines (g.L.Sink.items c.args.log.now.sink.now) c.requires.given c.args.filled.now.state c.args.filled.now.units.items
+    (filled_stands c.args.log.now.formula.now c.requires.few c.vars-vars.ensures.within engines c.requires.engines.few (g.L.Sink.items c.args.log.now.sink.now) c.requires.given c.args.filled.now.state c.args.filled.now.units.items
     (subst (IsFilled c.args.log.now.formula.now c.args.filled.now.state c.args.filled.now.units.items) c.in_default.is c.requires.filled)) in
     let stands = subst (PutsUnits c.put_units.new.log.formula.now engines c.put_units.new.state [] (g.L.Sink.items c.put_units.new.log.sink.now)) c.if-not-branch.false (c.in_ok-put_units.ensures.puts engines before) in
     record {
@@ -57,7 +57,7 @@ returns-then-not-branch-clause-begins g c =
     let engines = c.args.parities in
     let before : SearchStandsBut c.args.log.now.formula.now engines c.args.filled.now.state c.deref.result.now (g.L.Sink.items c.args.log.now.sink.now) =
     subst (λ us. SearchStandsBut c.args.log.now.formula.now engines c.args.filled.now.state us (g.L.Sink.items c.args.log.now.sink.now)) (sym c.deref.ensures.value)
-    (filled_stands c.args.log.now.formula.now c.requires.few c.vars-vars.ensures.within engines (g.L.Sink.items c.args.log.now.sink.now) c.requires.given c.args.filled.now.state c.args.filled.now.units.items
+    (filled_stands c.args.log.now.formula.now c.requires.few c.vars-vars.ensures.within engines c.requires.engines.few (g.L.Sink.items c.args.log.now.sink.now) c.requires.given c.args.filled.now.state c.args.filled.now.units.items
     (subst (IsFilled c.args.log.now.formula.now c.args.filled.now.state c.args.filled.now.units.items) c.in_default.is c.requires.filled)) in
     subst (PutsUnits c.put_units.new.log.formula.now engines c.put_units.new.state [] (g.L.Sink.items c.put_units.new.log.sink.now)) c.if-not-branch.true (c.in_ok-put_units.ensures.puts engines before)
 

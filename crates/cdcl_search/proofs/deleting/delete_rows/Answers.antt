@@ -9,12 +9,12 @@ use Rattle.cdcl_search.proofs.deleting.delete_rows.Goals as goal
 
 pub tell_steps-requires-clause-right : goal.tell_steps-requires-clause-right
 tell_steps-requires-clause-right g c = left_now _ c.args.state.now (g.P.ParityEngine.state c.args.engine.now) _ _
-    (rows_deleted c.args.log.now.formula.now c.args.state.now (g.P.ParityEngine.state c.args.engine.now) c.args.rows.now _ c.requires.stands (as_events c.in_ok-steps.steps.items) c.in_ok-steps.ensures.are)
+    (rows_deleted c.args.log.now.formula.now c.args.state.now (g.P.ParityEngine.state c.args.engine.now) c.args.rows.now _ c.requires.stands c.requires.few (as_events c.in_ok-steps.steps.items) c.in_ok-steps.ensures.are)
 
 pub returns : goal.returns
 returns g c =
     let stands = holds_where (λ formula told. SearchStands formula c.args.state.now (g.P.ParityEngine.state c.args.engine.now) [] told) (as_events c.in_ok-steps.steps.items) g.L.Sink c.args.log.now _ c.tell_steps.result c.tell_steps.new.log c.tell_steps.ensures.log c.tell_steps.ensures.told
-    (rows_deleted c.args.log.now.formula.now c.args.state.now (g.P.ParityEngine.state c.args.engine.now) c.args.rows.now _ c.requires.stands (as_events c.in_ok-steps.steps.items) c.in_ok-steps.ensures.are) in
+    (rows_deleted c.args.log.now.formula.now c.args.state.now (g.P.ParityEngine.state c.args.engine.now) c.args.rows.now _ c.requires.stands c.requires.few (as_events c.in_ok-steps.steps.items) c.in_ok-steps.ensures.are) in
     record { stands = stands; log = c.tell_steps.ensures.log }
 
 pub deletions_of_rows-requires : goal.deletions_of_rows-requires

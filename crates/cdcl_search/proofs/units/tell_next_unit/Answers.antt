@@ -59,6 +59,13 @@ pub delete_rows-requires-clause-stands : goal.delete_rows-requires-clause-stands
 delete_rows-requires-clause-stands g c =
     subst (λ rows. SearchStandsFrom c.tell_unit.new.log.formula.now c.tell_unit.new.state (g.P.ParityEngine.state c.args.engine.now) c.tell_unit.new.state.next rows (g.L.Sink.items c.tell_unit.new.log.sink.now)) (c.deref.ensures.value ∙ sym c.deref-2.ensures.value) c.in_ok-tell_unit.ensures.to_delete.stands
 
+pub delete_rows-requires-clause-few : goal.delete_rows-requires-clause-few
+delete_rows-requires-clause-few g c =
+    let one = c.in_ok-implying.ensures.one in
+    let none = ap length c.new-rows.ensures.items in
+    let same = ap length c.deref-2.ensures.value in
+    omega (arith, one, none, same)
+
 pub returns-in_err-implying-clause-stands_on : goal.returns-in_err-implying-clause-stands_on
 returns-in_err-implying-clause-stands_on g c =
     let fault = err_from_is_err_and c.from_residual.result c.from_residual.ensures.1 in
