@@ -14,7 +14,7 @@ use Rattle.parity_engine.specs.Written.{IsWritten, AreRising}
 use Rattle.watch_lists.specs.Truths.{IsFalsified}
 use Rattle.xor_reason.specs.Laws.{StandsOn}
 use Rattle.xor_reason.specs.ReasonClause.{AreAssigned, AreFalseBut, IsReasonFor, IsReasonClause}
-use Rattle.cx_trail.specs.Sequence.{IsFalseIn, IsTrueIn}
+use Rattle.cx_trail.specs.Sequence.{IsTrueIn}
 use Rattle.xor_reason.specs.declared.reason.ReasonOf.{ReasonOf}
 use Rattle.xor_reason.proofs.EventLaws.{broken_is_missed}
 use Rattle.search_steps.specs.Size.{additions, most_additions}
@@ -160,10 +160,6 @@ module _ (formula : Problem) (c : SearchState) (e : State) (told : Option (List 
           are_true = λ none. subst (AllByRecursion (IsTrueIn c.trail.entries)) (sym by.ends.failed)
               (false_negations c.trail reason.clause (subst (λ k. AreFalseBut c.trail k reason.clause) none is_clause.are_false) left (left_inside reason.clause left by.short.units.items by.shortened.parts));
         }
-
-    -- each literal of the clause of a row that is not met is false
-    pub row_is_false : IsRowAgainst c e row None → (reason : ReasonOf) → OfNamed e row (λ n. IsReasonClause c.trail None n.form reason.parity reason.clause) → (m : Literal) → has_literal reason.clause m ≡ true → IsFalseIn c.trail.entries m
-    row_is_false clash reason clause = (clause clash.0 clash.1).are_false
 
     -- the clause of the row, where it was told
     is_told_row : (rows : List (List Literal)) (lits clause : List Literal) (n : ℕ) → lits ≡ clause → n ≡ first_row_id c.next → rows ≡ clause ∷ [] → IsSourcedBy c rows lits n

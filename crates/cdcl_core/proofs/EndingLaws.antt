@@ -21,8 +21,7 @@ use Rattle.search_steps.specs.Search.{Search}
 use Rattle.search_steps.specs.Holding.{AreTold}
 use Rattle.cdcl_search.specs.declared.state.SearchState.{SearchState}
 use Rattle.cdcl_search.specs.Tells.{IsLeft, with_events}
-use Rattle.cdcl_search.specs.Units.{AreUnitsAnd}
-use Rattle.cdcl_core.specs.Concluding.{IsEndedWith, IsContradicted, IsRefutable}
+use Rattle.cdcl_core.specs.Concluding.{IsEndedWith, IsContradicted, IsRefutedBy}
 use Rattle.cdcl_core.specs.Results.{Refutes, IsEndedWithin, EndsFor}
 
 -- ---- at level 0
@@ -78,21 +77,21 @@ module _ (formula : Problem) (parities : List (List Literal)) (s : Search) (ok :
   clause_is_unmet = ended_is_unmet formula (s.events ++ Step last ∷ []) clause_ends.ended
 
 -- ---- the empty clause is told
-module _ (formula : Problem) (c : SearchState) (lits : List Literal) (n : ℕ) (old : Option (List LogEvent)) (shown : IsRefutable formula c lits n old) (hints : List ℤ) (are : AreUnitsAnd c lits n hints) where
+module _ (formula : Problem) (c : SearchState) (hints : List ℤ) (old : Option (List LogEvent)) (shown : IsRefutedBy formula c hints old) where
   abbrev s_then : Search
   s_then = shown.1.0
 
-  abbrev k : IsContradicted formula c lits n s_then
+  abbrev k : IsContradicted formula c hints s_then
   k = shown.1.2
 
   pub shown_ends : IsEndedWith formula c.conflicts [] (with_events (Step (ClauseWithHints c.next [] hints) ∷ []) old)
-  shown_ends = clause_is_told formula k.parities s_then k.search k.served c.conflicts k.conflicts c.next [] hints refl (record { within = refl; free = k.free }) (k.hinted hints are) refl (let few = k.few_additions in omega (arith, few)) old shown.1.1
+  shown_ends = clause_is_told formula k.parities s_then k.search k.served c.conflicts k.conflicts c.next [] hints refl (record { within = refl; free = k.free }) k.hinted refl (let few = k.few_additions in omega (arith, few)) old shown.1.1
 
   pub shown_is_unmet : Unmet formula
-  shown_is_unmet = clause_is_unmet formula k.parities s_then k.search k.served c.conflicts k.conflicts c.next [] hints refl (record { within = refl; free = k.free }) (k.hinted hints are) refl
+  shown_is_unmet = clause_is_unmet formula k.parities s_then k.search k.served c.conflicts k.conflicts c.next [] hints refl (record { within = refl; free = k.free }) k.hinted refl
 
   pub shown_fails : IsFailed formula []
-  shown_fails = clause_fails formula k.parities s_then k.search k.served c.conflicts k.conflicts c.next [] hints refl (record { within = refl; free = k.free }) (k.hinted hints are) refl
+  shown_fails = clause_fails formula k.parities s_then k.search k.served c.conflicts k.conflicts c.next [] hints refl (record { within = refl; free = k.free }) k.hinted refl
 
   pub shown_is_apart : clashes formula.constraints ≡ false
   shown_is_apart = k.search.log.apart

@@ -96,16 +96,6 @@ fails_by constraints c clause n (Some l) below rows h p = record {
 pub rows_apart : (constraints : List Constraint) (t : TrailState) (n : ℕ) → AreApart constraints t n → RowsAreApart constraints t n
 rows_apart constraints t n h l reason below has row is = subst (λ (m : Literal). assumes constraints (negate m) ≡ false) below.2.1 (h below.0 below.1)
 
--- a conflict at level 0 ends the log by all of the trail
-pub start_ends_at : (constraints : List Constraint) (t : TrailState) → IsTrail t → t.level ≡ 0 → RowsAreApart constraints t (length t.entries) → (below : ℕ) → below ≡ length t.entries → EndsAtPlace constraints t None below
-start_ends_at constraints t ok zero apart below is = record {
-  within = omega (arith, is);
-  apart = subst (RowsAreApart constraints t) (sym is) apart;
-  rests = λ p less d. absurd (let top = ok.levels p (omega (arith, less, is)) in let above = d.0 in omega (arith, top, above, zero));
-  all = λ none. is;
-  stands = tt;
-}
-
 -- a conflict where each decision is of an assumed literal ends the log by all of the trail
 pub conflict_ends_at : (constraints : List Constraint) (a : Assumptions) (t : TrailState) → KeepsAssumptions constraints a t → IsTrail t → t.level ≤ a.level → a.checked ≡ length t.entries → (below : ℕ) → below ≡ length t.entries
     → EndsAtPlace constraints t None below

@@ -21,7 +21,7 @@ any_default (x ∷ xs) zero n less is = sym is
 any_default (x ∷ xs) (suc i) n less is = any_default xs i n (omega (arith, less)) is
 
 module _ (formula : Problem) (c : SearchState) (e : State) (rows : List (List Literal)) (old : Option (List LogEvent)) (st : SearchStands formula c e rows old) where
-  sourced_is_id : (clause : List Literal) (n : ℕ) → IsSourcedBy c rows clause n → IsId n
+  pub sourced_is_id : (clause : List Literal) (n : ℕ) → IsSourcedBy c rows clause n → IsId n
   sourced_is_id clause n (inl (r, live, is, at)) = subst IsId (sym at) ((has_ids formula c e rows old st).stored r live)
   sourced_is_id clause n (inr (inl (i, less, is, at))) = is_one c.units.items n (has_ids formula c e rows old st).units (i, less, any_default c.units.items i n less at)
   sourced_is_id clause n (inr (inr (i, less, is, at))) =
@@ -30,19 +30,26 @@ module _ (formula : Problem) (c : SearchState) (e : State) (rows : List (List Li
       let high = ids.1 in
       (omega (arith, low, at), omega (arith, high, at, less))
 
-  antecedents_are_ids : (trail : TrailState) (rs : List Resolved) (clauses : List (List Literal)) → AreAntecedents trail (IsSourcedBy c rows) rs clauses → (r : Resolved) → Contains rs r → IsId r.id
-  antecedents_are_ids trail [] clauses a r (i, less, is) = absurd (omega (arith, less))
-  antecedents_are_ids trail (x ∷ rs) [] a r at = absurd a
-  antecedents_are_ids trail (x ∷ rs) (clause ∷ clauses) a r (zero, less, is) = subst (λ (y : Resolved). IsId y.id) is (sourced_is_id clause x.id a.0)
-  antecedents_are_ids trail (x ∷ rs) (clause ∷ clauses) a r (suc i, less, is) = antecedents_are_ids trail rs clauses a.2 r (i, omega (arith, less), is)
+-- what holds of each id under which a clause is held
+module _ (holds : List Literal → ℕ → Type 0) (P : ℕ → Type 0) (all : (clause : List Literal) (n : ℕ) → holds clause n → P n) where
+  antecedents_have : (trail : TrailState) (rs : List Resolved) (clauses : List (List Literal)) → AreAntecedents trail holds rs clauses → (r : Resolved) → Contains rs r → P r.id
+  antecedents_have trail [] clauses a r (i, less, is) = absurd (omega (arith, less))
+  antecedents_have trail (x ∷ rs) [] a r at = absurd a
+  antecedents_have trail (x ∷ rs) (clause ∷ clauses) a r (zero, less, is) = subst (λ (y : Resolved). P y.id) is (all clause x.id a.0)
+  antecedents_have trail (x ∷ rs) (clause ∷ clauses) a r (suc i, less, is) = antecedents_have trail rs clauses a.2 r (i, omega (arith, less), is)
 
-  pub resolved_ids : (conflict : List Literal) (resolved : List Resolved) (lits : List Literal) → Follows c.trail conflict (IsSourcedBy c rows) resolved lits → (r : Resolved) → Contains resolved r → IsId r.id
-  resolved_ids conflict resolved lits f r (i, less, is) =
+  -- it holds of the ids of the clauses that were resolved
+  pub resolved_have : (trail : TrailState) (conflict : List Literal) (resolved : List Resolved) (lits : List Literal) → Follows trail conflict holds resolved lits → (r : Resolved) → Contains resolved r → P r.id
+  resolved_have trail conflict resolved lits f r (i, less, is) =
       let long = length-reverse resolved in
       let other = length resolved - 1 - i in
       let back : length resolved - 1 - other ≡ i = omega (arith, less) in
-      antecedents_are_ids c.trail (reverse resolved) f.0 f.1 r (
+      antecedents_have trail (reverse resolved) f.0 f.1 r (
         other,
         omega (arith, less, long),
         get_or-reverse resolved other r (omega (arith, less)) ∙ ap (λ k. get_or resolved k r) back ∙ is,
       )
+
+pub resolved_ids : (formula : Problem) (c : SearchState) (e : State) (rows : List (List Literal)) (old : Option (List LogEvent)) → SearchStands formula c e rows old → (conflict : List Literal) (resolved : List Resolved) (lits : List Literal)
+    → Follows c.trail conflict (IsSourcedBy c rows) resolved lits → (r : Resolved) → Contains resolved r → IsId r.id
+resolved_ids formula c e rows old st conflict resolved lits f = resolved_have (IsSourcedBy c rows) IsId (sourced_is_id formula c e rows old st) c.trail conflict resolved lits f

@@ -1,6 +1,6 @@
--- A row that is not met at level 0 ends the log with the empty clause, once each of its literals has a unit clause.
-use Rattle.std.proofs.Common.{◌≡◌, ◌≢◌, refl, sym, ap, ◌∙◌, subst, ℕ, ◌+◌, ◌<◌, ◌≤◌, ℤ, true, false, ◌&&◌, List, [], ◌∷◌, ◌++◌, map, length, get_or, Option, Some, None, arith, inr, true≢false, append_assoc, length-append}
-use Rattle.std.specs.List.{AllByRecursion}
+-- A row whose clause would end the log ends it with the empty clause at level 0, once the negation of each of its literals has a unit clause.
+use Rattle.std.proofs.Common.{◌≡◌, refl, sym, ap, ◌∙◌, subst, ℕ, ◌+◌, ◌<◌, ◌≤◌, ℤ, true, false, ◌&&◌, List, [], ◌∷◌, ◌++◌, map, length, get_or, is_some, Option, Some, None, arith, inl, inr, true≢false, append_assoc, length-append}
+use Rattle.std.specs.List.{AllByRecursion, cons_option}
 use Rattle.std.specs.FinMap as map_
 use Rattle.std.proofs.lemmas.Bool.{and_from}
 use Rattle.std.proofs.lemmas.List.{map-append}
@@ -14,11 +14,12 @@ use Rattle.cx_base.specs.declared.steps.LogEvent.TheVariants.{Step}
 use Rattle.cx_base.specs.declared.steps.LogStep.TheVariants.{ClauseWithHints}
 use Rattle.cx_base.proofs.Elements.{all_append}
 use Rattle.cx_base.proofs.LiteralLaws.{negate-negate}
-use Rattle.cx_semantics.specs.Chain.{has_literal, negations}
-use Rattle.cx_semantics.specs.Tables.{Table, get}
+use Rattle.cx_semantics.specs.Chain.{has_literal, negations, chain, right}
+use Rattle.cx_semantics.specs.LogRules.{AreLive}
+use Rattle.cx_semantics.specs.Tables.{Table, get, named}
 use Rattle.cx_semantics.proofs.Closure.{inside_itself}
 use Rattle.cx_semantics.proofs.Members.{has_at_head, has_behind}
-use Rattle.cx_trail.specs.Sequence.{TrailState, IsTrail, IsFalseIn}
+use Rattle.cx_trail.specs.Sequence.{TrailState, IsTrail}
 use Rattle.conflict_learn.specs.declared.learning.Resolved.{Resolved}
 use Rattle.conflict_learn.specs.Final.{IsFinal, IsDecidedAt}
 use Rattle.conflict_learn.specs.Learning.{Follows, negated_at}
@@ -27,26 +28,26 @@ use Rattle.parity_engine.specs.State.{State}
 use Rattle.parity_engine.specs.Equations.{numbered}
 use Rattle.xor_reason.specs.declared.reason.ReasonOf.{ReasonOf}
 use Rattle.cx_semantics.specs.Marked.{Moment}
-use Rattle.search_steps.specs.Hints.{IsNamedBy, hints_from}
+use Rattle.search_steps.specs.Hints.{AreHintsFor}
 use Rattle.search_steps.specs.Ids.{AreRowIds, IsRanged}
 use Rattle.search_steps.specs.LogSteps.{all_told}
 use Rattle.search_steps.specs.Search.{Search, IsSearch, told}
 use Rattle.search_steps.specs.Size.{additions, most_additions}
-use Rattle.search_steps.specs.Trail.{Entry, held}
-use Rattle.search_steps.proofs.Bridge.{to_held}
+use Rattle.search_steps.specs.Tied.{IsLiveSet, IsLiveOr}
+use Rattle.search_steps.specs.Trail.{Entry}
+use Rattle.search_steps.proofs.Bridge.{level_tied}
 use Rattle.search_steps.proofs.IdLaws.{row_next_is_free}
-use Rattle.search_steps.proofs.LateUnits.{late_unit_keeps}
+use Rattle.search_steps.proofs.BesideUnits.{beside_unit_keeps}
 use Rattle.search_steps.proofs.SizeLaws.{told_adds}
 use Rattle.search_steps.proofs.StartLaws.{literals_are, variables_are_within}
 use Rattle.cdcl_search.specs.declared.state.SearchState.{SearchState}
 use Rattle.cdcl_search.specs.Explaining.{Explains}
-use Rattle.cdcl_search.specs.Sources.{IsSourcedBy}
 use Rattle.cdcl_search.specs.Tells.{as_events, with_events}
 use Rattle.cdcl_search.specs.Ties.{SearchStands, first_row_id}
 use Rattle.cdcl_search.proofs.EndingClauses.{ending_assumes}
 use Rattle.cdcl_search.proofs.Events.{more_and_more}
 use Rattle.cdcl_search.proofs.RowSteps.{all_told_are, clause_within}
-use Rattle.cdcl_search.proofs.TableLaws.{named_stays, no_clause, put_same, put_other}
+use Rattle.cdcl_search.proofs.TableLaws.{no_clause, put_same, put_other}
 use Rattle.cdcl_core.specs.Concluding.{EndsLog, IsEndedWith}
 use Rattle.cdcl_core.specs.Shortening.{ArePartedInto, IsToldUnit, EndsByUnits, late_unit_events, late_units_from, short_row_events}
 use Rattle.cdcl_core.specs.declared.conflicts.LogEnd.{LogEnd}
@@ -66,11 +67,10 @@ pub follows_nothing : (t : TrailState) → IsTrail t → t.level ≡ 0 → (clau
 follows_nothing t ok level clause holds resolved lits f = subst (Follows t clause holds resolved) (f.are ∙ none_decided t ok level f.places f.within f.decided) f.follows
 
 -- ---- unit clauses of literals that have none yet
--- the literal of the clause is false at level 0, and its negation contradicts no assumed literal
-pub record IsLate (formula : Problem) (es : List Entry) (clause : List Literal) (l : Literal) : Type 0 where
+-- the clause has the literal, and its negation contradicts no assumed one
+pub record IsLate (formula : Problem) (clause : List Literal) (l : Literal) : Type 0 where
   pub within : (1 ≤ l.variable) × (l.variable ≤ formula.variables)
   pub apart : assumes formula.constraints l ≡ false
-  pub false_now : has_literal (held 0 es) (negate l) ≡ true
   pub has : has_literal clause l ≡ true
 
 -- their unit clauses were told, under the ids from the first one on
@@ -83,11 +83,33 @@ pub record AreLateTold (formula : Problem) (parities : List (List Literal)) (old
   pub served : new.moment.awaits ≡ false
   pub conflicts : new.conflicts ≡ old.conflicts
 
-still_named : (table : Table) (n : ℕ) (lits : List Literal) → get table n ≡ None → (c : List Literal) (m : ℕ) → IsNamedBy table c m → IsNamedBy (map_.insert table n lits) c m
-still_named table n lits none c m by = named_stays table (map_.insert table n lits) c m (put_other table n m lits (λ is. no_clause by.clause (sym by.live ∙ ap (get table) is ∙ none))) by
+still_live : (table : Table) (n : ℕ) (lits : List Literal) → get table n ≡ None → (c : List Literal) → IsLiveSet table c → IsLiveSet (map_.insert table n lits) c
+still_live table n lits none c (clause, (m, live), same) = (clause, (m, put_other table n m lits (λ is. no_clause clause (sym live ∙ ap (get table) is ∙ none)) ∙ live), same)
 
-module _ (formula : Problem) (parities : List (List Literal)) (hints : List ℤ) (trail : TrailState) (clause : List Literal) (holds : List Literal → ℕ → Type 0) (resolved : List Resolved) (f : Follows trail clause holds resolved []) (hinted : hints ≡ hints_from resolved) where
-  module _ (l : Literal) (n : ℕ) (s : Search) (is : IsLate formula s.trail clause l) (free : (m : ℕ) → n ≤ m → get s.moment.tables.clauses m ≡ None) where
+all_still : (table : Table) (n : ℕ) (lits clause : List Literal) → get table n ≡ None → (ds : List (List Literal)) → AllByRecursion (IsLiveOr table clause) ds → AllByRecursion (IsLiveOr (map_.insert table n lits) clause) ds
+all_still table n lits clause none [] h = tt
+all_still table n lits clause none (d ∷ ds) (inl (live, plain), h) = (inl (still_live table n lits none d live, plain), all_still table n lits clause none ds h)
+all_still table n lits clause none (d ∷ ds) (inr is, h) = (inr is, all_still table n lits clause none ds h)
+
+-- hints that are right stay so
+ids_still : (table : Table) (n : ℕ) (lits : List Literal) → get table n ≡ None → (ids : List ℕ) → AreLive table ids → AreLive (map_.insert table n lits) ids × (named (map_.insert table n lits) ids ≡ named table ids)
+ids_still table n lits none [] h = (tt, refl)
+ids_still table n lits none (m ∷ ids) h =
+    let same : get (map_.insert table n lits) m ≡ get table m = put_other table n m lits (λ is. true≢false (sym h.0 ∙ ap is_some (ap (get table) is ∙ none))) in
+    let rest = ids_still table n lits none ids h.1 in
+    ((ap is_some same ∙ h.0, rest.0), (λ i. cons_option (same i) (rest.1 i)))
+
+hints_still : (table : Table) (n : ℕ) (lits : List Literal) → get table n ≡ None → (target : List Literal) (hints : List ℤ) → AreHintsFor table target hints → AreHintsFor (map_.insert table n lits) target hints
+hints_still table n lits none target hints h =
+    let r = ids_still table n lits none h.ids h.live in
+    record { ids = h.ids; are = h.are; live = r.0; chain = ap (chain (negations target)) r.1 ∙ h.chain }
+
+-- the hints are right for the unit clause of each negation of a literal of the clause
+abbrev pub AreHintsBeside : Table → List Literal → List ℤ → Type 0
+AreHintsBeside table clause hints = (m : Literal) → has_literal clause (negate m) ≡ true → AreHintsFor table (m ∷ []) hints
+
+module _ (formula : Problem) (parities : List (List Literal)) (hints : List ℤ) (clause : List Literal) (clauses : List (List Literal)) (serves : (assumed : List Literal) → chain assumed clauses ≡ right) where
+  module _ (l : Literal) (n : ℕ) (s : Search) (is : IsLate formula clause l) (free : (m : ℕ) → n ≤ m → get s.moment.tables.clauses m ≡ None) where
     abbrev z : ℤ
     z = integer_of (negate l)
 
@@ -103,11 +125,13 @@ module _ (formula : Problem) (parities : List (List Literal)) (hints : List ℤ)
     abbrev after : Search
     after = told s (Step (ClauseWithHints n (z ∷ []) hints))
 
-    late_next : IsSearch formula parities s → ((c : List Literal) (k : ℕ) → holds c k → IsNamedBy s.moment.tables.clauses c k) → s.moment.awaits ≡ false → IsSearch formula parities after
-    late_next ok live served = late_unit_keeps formula parities s ok n z hints (record { within = variables_are_within formula.variables (negate l ∷ []) within; free = free n (omega arith) })
+    late_next : IsSearch formula parities s → s.quiet_levels ≡ 0 → AllByRecursion (IsLiveOr s.moment.tables.clauses clause) clauses → AreHintsBeside s.moment.tables.clauses clause hints → s.moment.awaits ≡ false → IsSearch formula parities after
+    late_next ok level are hinted served =
+        let has : has_literal clause (negate (literal z)) ≡ true = ap (λ x. has_literal clause (negate x)) one ∙ ap (has_literal clause) (negate-negate l) ∙ is.has in
+        beside_unit_keeps formula parities s ok level n z hints (record { within = variables_are_within formula.variables (negate l ∷ []) within; free = free n (omega arith) })
+        (hinted (literal z) has)
         (ap (λ x. assumes formula.constraints (negate x) && true) one ∙ ap (λ x. assumes formula.constraints x && true) (negate-negate l) ∙ ap (λ b. b && true) is.apart)
-        served (ap (has_literal (held 0 s.trail)) one ∙ is.false_now) trail clause holds resolved live f
-        (ap (λ x. has_literal clause (negate x)) one ∙ ap (has_literal clause) (negate-negate l) ∙ is.has) hinted
+        served clause clauses are serves has
 
     late_more : (lits : List Literal) → AreLateTold formula parities after (all_told after (late_unit_events hints (late_units_from (n + 1) lits))) (n + 1) (late_units_from (n + 1) lits)
         → AreLateTold formula parities s (all_told s (late_unit_events hints (late_units_from n (l ∷ lits)))) n (late_units_from n (l ∷ lits))
@@ -131,9 +155,10 @@ module _ (formula : Problem) (parities : List (List Literal)) (hints : List ℤ)
       conflicts = rest.conflicts;
     }
 
-  pub late_told : (lits : List Literal) (n : ℕ) (s : Search) → IsSearch formula parities s → ((c : List Literal) (k : ℕ) → holds c k → IsNamedBy s.moment.tables.clauses c k) → ((m : ℕ) → n ≤ m → get s.moment.tables.clauses m ≡ None) → s.moment.awaits ≡ false
-      → AllByRecursion (IsLate formula s.trail clause) lits → AreLateTold formula parities s (all_told s (late_unit_events hints (late_units_from n lits))) n (late_units_from n lits)
-  late_told [] n s ok live free served are = record {
+  pub late_told : (lits : List Literal) (n : ℕ) (s : Search) → IsSearch formula parities s → s.quiet_levels ≡ 0 → AllByRecursion (IsLiveOr s.moment.tables.clauses clause) clauses → AreHintsBeside s.moment.tables.clauses clause hints
+      → ((m : ℕ) → n ≤ m → get s.moment.tables.clauses m ≡ None) → s.moment.awaits ≡ false
+      → AllByRecursion (IsLate formula clause) lits → AreLateTold formula parities s (all_told s (late_unit_events hints (late_units_from n lits))) n (late_units_from n lits)
+  late_told [] n s ok level live hinted free served are = record {
     search = ok;
     parities_same = refl;
     low = λ m less. refl;
@@ -142,9 +167,10 @@ module _ (formula : Problem) (parities : List (List Literal)) (hints : List ℤ)
     served = served;
     conflicts = refl;
   }
-  late_told (l ∷ lits) n s ok live free served are = late_more l n s are.0 free lits
-      (late_told lits (n + 1) (told s (Step (ClauseWithHints n (integer_of (negate l) ∷ []) hints))) (late_next l n s are.0 free ok live served)
-      (λ c k h. still_named s.moment.tables.clauses n (literals (integer_of (negate l) ∷ [])) (free n (omega arith)) c k (live c k h))
+  late_told (l ∷ lits) n s ok level live hinted free served are = late_more l n s are.0 free lits
+      (late_told lits (n + 1) (told s (Step (ClauseWithHints n (integer_of (negate l) ∷ []) hints))) (late_next l n s are.0 free ok level live hinted served) level
+      (all_still s.moment.tables.clauses n (literals (integer_of (negate l) ∷ [])) clause (free n (omega arith)) clauses live)
+      (λ m has. hints_still s.moment.tables.clauses n (literals (integer_of (negate l) ∷ [])) (free n (omega arith)) (m ∷ []) hints (hinted m has))
       (λ m high. put_other s.moment.tables.clauses n m (literals (integer_of (negate l) ∷ [])) (λ same. omega (arith, same, high)) ∙ free m (omega (arith, high))) refl are.1)
 
 -- ---- ids after those of rows are free
@@ -170,9 +196,9 @@ late_parts [] n = (refl, refl)
 late_parts (l ∷ lits) n = inr (record { literal = negate l; id = n }, late_units_from (n + 1) lits, refl, sym (negate-negate l), late_parts lits (n + 1))
 
 module _ (formula : Problem) (c : SearchState) (e : State) (rows : List (List Literal)) (told_ : Option (List LogEvent)) (st : SearchStands formula c e rows told_) (r : ReasonOf) (x : Explains e.parities c.trail r)
-    (false_now : (m : Literal) → has_literal r.clause m ≡ true → IsFalseIn c.trail.entries m) (ends : is_ending formula.constraints r.clause ≡ true) (level : c.trail.level ≡ 0)
-    (resolved : List Resolved) (f : Follows c.trail r.clause (IsSourcedBy c rows) resolved []) (live : (clause : List Literal) (i : ℕ) → IsSourcedBy c rows clause i → IsNamedBy st.0.moment.tables.clauses clause i)
-    (hints : List ℤ) (hinted : hints ≡ hints_from resolved) (n : LogEnd) (by : EndsByUnits c (length formula.constraints) (length rows) r hints n) where
+    (ends : is_ending formula.constraints r.clause ≡ true) (level : c.trail.level ≡ 0)
+    (clauses : List (List Literal)) (live : AllByRecursion (IsLiveOr st.0.moment.tables.clauses r.clause) clauses) (serves : (assumed : List Literal) → chain assumed clauses ≡ right)
+    (hints : List ℤ) (hinted : AreHintsBeside st.0.moment.tables.clauses r.clause hints) (n : LogEnd) (by : EndsByUnits c (length formula.constraints) (length rows) r hints n) where
   abbrev s : Search
   s = st.0
 
@@ -194,20 +220,16 @@ module _ (formula : Problem) (c : SearchState) (e : State) (rows : List (List Li
   abbrev s1 : Search
   s1 = all_told s (late_unit_events hints late)
 
-  is_late : (l : Literal) → has_literal r.clause l ≡ true → (1 ≤ l.variable) × (l.variable ≤ formula.variables) → IsLate formula s.trail r.clause l
+  is_late : (l : Literal) → has_literal r.clause l ≡ true → (1 ≤ l.variable) × (l.variable ≤ formula.variables) → IsLate formula r.clause l
   is_late l has within = record {
     within = within;
     apart = by_cases (assumes formula.constraints l)
         (λ h. absurd (true≢false (sym (both_assumed_clash formula.constraints l h (ending_assumes formula.constraints r.clause ends l has)) ∙ st.1.log.apart)))
         (λ h. h);
-    false_now =
-        let at = false_now l has in
-        let top = st.3.trail.follows.sound.levels at.0 at.1.0 in
-        ap (has_literal (held 0 s.trail)) (sym at.1.1) ∙ to_held 0 s.trail c.trail.entries st.3.trail.follows.tied at.0 at.1.0 (omega (arith, top, level));
     has = has;
   }
 
-  are_late : (lits : List Literal) → ((l : Literal) → has_literal lits l ≡ true → has_literal r.clause l ≡ true) → AreWithin formula.variables lits → AllByRecursion (IsLate formula s.trail r.clause) lits
+  are_late : (lits : List Literal) → ((l : Literal) → has_literal lits l ≡ true → has_literal r.clause l ≡ true) → AreWithin formula.variables lits → AllByRecursion (IsLate formula r.clause) lits
   are_late [] h w = tt
   are_late (l ∷ lits) h w = (is_late l (h l (has_at_head l lits)) w.0, are_late lits (λ m g. h m (has_behind l lits m g)) w.1)
 
@@ -215,7 +237,7 @@ module _ (formula : Problem) (c : SearchState) (e : State) (rows : List (List Li
   left_within = left_all (λ l. (1 ≤ l.variable) × (l.variable ≤ formula.variables)) r.clause left units by.shortened.parts (clause_within formula c e rows s st.3 r x)
 
   told_late : AreLateTold formula e.parities s s1 first late
-  told_late = late_told formula e.parities hints c.trail r.clause (IsSourcedBy c rows) resolved f hinted left first s st.1 live
+  told_late = late_told formula e.parities hints r.clause clauses serves left first s st.1 (st.3.levels ∙ level_tied s.trail c.trail st.3.trail.follows.tied st.3.trail.follows.sound ∙ level) live hinted
       (λ m high. row_next_is_free formula (first_row_id c.next) c.next m s (ranged_up formula (first_row_id c.next) c.next first m s.trail s.moment high st.3.log.ranged) (omega (arith, high)))
       st.3.log.served.served (are_late left (left_inside r.clause left units by.shortened.parts) left_within)
 

@@ -6,14 +6,15 @@ pub mod JumpLaws
 pub mod HintIds
 pub mod LearnLaws
 pub mod FailLaws
-pub mod RefutedLaws
 pub mod AgainstLaws
 pub mod ClashLaws
 pub mod ShortForms
 pub mod ShortLaws
 pub mod ShortSteps
 pub mod LateSteps
+pub mod BesideHints
 pub mod LateLaws
+pub mod BesideLaws
 pub mod KnownLaws
 pub mod ConflictLaws
 pub mod Answering

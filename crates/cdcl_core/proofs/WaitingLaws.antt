@@ -217,7 +217,7 @@ module _ (formula : Problem) (engines : List (List Literal)) (c : SearchState) (
 
   -- its literal is false
   pub false_is_refutable : IsFalseIn c.trail.entries u.literal → IsRefutable formula c (u.literal ∷ []) u.number old
-  false_is_refutable h = (
+  false_is_refutable h = λ hints are. (
     (let next = ties.next in omega (arith, next), let room = ties.room in omega (arith, room)),
     (
       search,
@@ -225,7 +225,7 @@ module _ (formula : Problem) (engines : List (List Literal)) (c : SearchState) (
       record {
         parities = engines;
         search = st.1;
-        hinted = λ hints are. unit_hints_are_right search.moment.tables.clauses c.next c search.trail ties.units (u.literal ∷ []) u.number hints (record { clause = clause; live = live; same = single.0.same }) are []
+        hinted = unit_hints_are_right search.moment.tables.clauses c.next c search.trail ties.units (u.literal ∷ []) u.number hints (record { clause = clause; live = live; same = single.0.same }) are []
             (λ m has. elim (has_split u.literal [] m has) [
               | inl e ↦ inr (h.0, (let less = h.1.0 in let every = ties.every in omega (arith, less, every)), subst (λ x. StandsAt c.trail.entries (negate x) h.0) (sym e) h.1)
               | inr none ↦ absurd (true≢false (sym none))
@@ -413,7 +413,7 @@ module _ (formula : Problem) (few : length formula.constraints ≤ 4294967295) (
 
   -- a clause without literals
   pub empty_is_refutable : (number : ℕ) → IsFilled formula c units (Some number) → IsRefutable formula c [] number told
-  empty_is_refutable number f = (
+  empty_is_refutable number f = λ hints are. (
     (let next = f.next in omega (arith, next), let r = room_then in let next = f.next in omega (arith, next, r)),
     (
       b.0,
@@ -421,7 +421,7 @@ module _ (formula : Problem) (few : length formula.constraints ≤ 4294967295) (
       record {
         parities = engines;
         search = b.1.search;
-        hinted = λ hints are. unit_hints_are_right b.0.moment.tables.clauses c.next c b.0.trail (no_unit b.0.moment.tables.clauses c.next c.trail b.0.trail c.units.items b.1.no_trail f.no_units (ap (λ t. t.level) f.trail)) [] number hints
+        hinted = unit_hints_are_right b.0.moment.tables.clauses c.next c b.0.trail (no_unit b.0.moment.tables.clauses c.next c.trail b.0.trail c.units.items b.1.no_trail f.no_units (ap (λ t. t.level) f.trail)) [] number hints
             (record { clause = []; live = b.1.clauses.numbered number f.empty_is.0 f.empty_is.1 ∙ ap Some f.empty_is.2; same = refl }) are [] (λ m has. absurd (true≢false (sym has)));
         free = ap (get b.0.moment.tables.clauses) f.next ∙ b.1.no_more (length (clauses_of formula.constraints) + 1) (omega arith);
         served = b.1.tidy.served;

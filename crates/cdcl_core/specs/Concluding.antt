@@ -1,5 +1,5 @@
 -- What a conflict comes to.
-use Rattle.std.specs.Prelude.{◌≡◌, ℕ, ◌+◌, ◌*◌, ◌<◌, ◌≤◌, ℤ, List, [], ◌∷◌, length, Option, Some, None, Result, OnOk, IfOk, IsFalse, IsTrue, ◌≢◌}
+use Rattle.std.specs.Prelude.{◌≡◌, ℕ, ◌+◌, ◌<◌, ◌≤◌, ℤ, List, [], ◌∷◌, length, Option, Some, None, Result, OnOk, IfOk, IsFalse, IsTrue, ◌≢◌}
 use Rattle.std.specs.List.{AllByRecursion}
 use Rattle.cx_base.specs.Assumptions.{clashes, IsFailed}
 use Rattle.cx_base.specs.Problem.{Problem, Unmet}
@@ -17,7 +17,7 @@ use Rattle.search_steps.specs.Holding.{AreTold}
 use Rattle.search_steps.specs.Hints.{AreHintsFor, AreHinted}
 use Rattle.search_steps.specs.Schedule.{IsScheduled}
 use Rattle.search_steps.specs.Search.{Search, IsSearch}
-use Rattle.search_steps.specs.Size.{additions, IsBounded}
+use Rattle.search_steps.specs.Size.{additions, most_additions, IsBounded}
 use Rattle.cx_trail.specs.Sequence.{IsFalseIn}
 use Rattle.step_text.specs.declared.sink.Sink as sink
 use Rattle.parity_engine.specs.declared.engine.ParityEngine as engine
@@ -115,19 +115,23 @@ pub record ConcludesOn {P L : Type 0} (p : engine.Ghosts P) (m : sink.Ghosts L L
   pub concludes : IfOk result (λ k. Concludes new.formula.now c (p.state e) (told_in m new) kept k)
   pub log : GoesOn m old (fault_in result) new
 
--- The unit clauses that make these literals false and the clause of this id, which has them, are right hints for the empty clause. That may have the next id.
-pub record IsContradicted (formula : Problem) (c : SearchState) (lits : List Literal) (n : ℕ) (s : Search) : Type 0 where
+-- The hints are right for the empty clause, and that may have the next id. There is room for it in the log.
+pub record IsContradicted (formula : Problem) (c : SearchState) (hints : List ℤ) (s : Search) : Type 0 where
   pub parities : List (List Literal)
   pub search : IsSearch formula parities s
-  pub hinted : (hints : List ℤ) → AreUnitsAnd c lits n hints → AreHintsFor s.moment.tables.clauses [] hints
+  pub hinted : AreHintsFor s.moment.tables.clauses [] hints
   pub free : get s.moment.tables.clauses c.next ≡ None
   pub served : IsFalse s.moment.awaits
   pub conflicts : s.conflicts ≡ c.conflicts
-  pub few_additions : additions s.events ≤ 2 * length formula.constraints
+  pub few_additions : additions s.events < most_additions formula c.conflicts
 
--- so it is after what was told
+-- so they are after what was told
+abbrev pub IsRefutedBy : Problem → SearchState → List ℤ → Option (List LogEvent) → Type 0
+IsRefutedBy formula c hints told = IsId c.next × ((s : Search) × AreTold told s.events × IsContradicted formula c hints s)
+
+-- so are the ids of the unit clauses that make these literals false, and then that of a clause, which has them
 abbrev pub IsRefutable : Problem → SearchState → List Literal → ℕ → Option (List LogEvent) → Type 0
-IsRefutable formula c lits n told = IsId c.next × ((s : Search) × AreTold told s.events × IsContradicted formula c lits n s)
+IsRefutable formula c lits n told = (hints : List ℤ) → AreUnitsAnd c lits n hints → IsRefutedBy formula c hints told
 
 -- the search is before a propagation, with fewer counted conflicts than the budget
 pub record SearchGoesOn (formula : Problem) (budget : ℕ) (told : Option (List LogEvent)) (c : SearchState) (e : State) : Type 0 where

@@ -37,11 +37,10 @@ pub record IsLeftOf (constraints : List Constraint) (c : SearchState) (clause : 
   pub final : IsFinal c.trail below kept clause (IsSourcedBy c rows) left.resolved.items left.lits
   pub stand : (l : Literal) → IsTrue (has_literal (literals_of left.resolved.items) l) → StandsBelow c.trail below l
 
--- propagation found a conflict at level 0, and no row implied a literal that contradicts an assumed one
-pub record IsRefuted (constraints : List Constraint) (t : TrailState) (found : Found) : Type 0 where
+-- propagation found a conflict at level 0
+pub record IsRefuted (t : TrailState) (found : Found) : Type 0 where
   pub conflict : found ≢ Quiet
   pub level : t.level ≡ 0
-  pub apart : RowsAreApart constraints t (length t.entries)
 
 -- the place that an end begins at: no literal below it that a row implied contradicts an assumed one, and decisions there are assumed; the kept literal is there, and its negation is assumed
 pub record EndsAtPlace (constraints : List Constraint) (t : TrailState) (kept : Option Literal) (below : ℕ) : Type 0 where

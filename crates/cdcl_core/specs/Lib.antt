@@ -16,3 +16,5 @@ pub mod Rounds
 pub mod GoingBack
 pub mod Shortening
 pub mod Scheduling
+pub mod Refuting
+pub mod Alike

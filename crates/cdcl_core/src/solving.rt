@@ -4,7 +4,7 @@ ghost use Rattle.conflict_learn.specs.Faults.{fault_in};
 ghost use Rattle.conflict_learn.specs.Marks.{AreClear};
 ghost use Rattle.parity_engine.specs.declared.state.Mood.TheVariants.{Broken};
 ghost use Rattle.search_steps.specs.Recovering.{SettledWithRecovered};
-ghost use Rattle.cdcl_search.specs.Finds.{IsClash, PropagationFinds};
+ghost use Rattle.cdcl_search.specs.Finds.{PropagationFinds};
 ghost use Rattle.cdcl_search.specs.Searching.{SearchReaches};
 ghost use Rattle.cdcl_search.specs.Logs.{GoesOn, HasNotFailed, Stands, told_in};
 ghost use Rattle.cdcl_search.specs.declared.propagation.Found.TheVariants.{Quiet};
@@ -14,7 +14,7 @@ ghost use Rattle.search_policy.specs.Assuming.{Contradicts, KeepsAssumptions};
 ghost use Rattle.cx_base.specs.Literals.{positive_of, negative_of};
 ghost use Rattle.cdcl_core.specs.Beginning.{IsAtStart};
 ghost use Rattle.cdcl_core.specs.Concluding.{Concludes, IsAtConflict, IsTold, TellsEnd, IsByClause};
-ghost use Rattle.cdcl_core.specs.Failing.{EndsAtPlace, IsRefuted};
+ghost use Rattle.cdcl_core.specs.Failing.{EndsAtPlace};
 ghost use Rattle.cdcl_core.specs.Filling.{IsFilledUpTo};
 ghost use Rattle.cdcl_core.specs.Given.{AreEngines, HasGiven};
 ghost use Rattle.cdcl_core.specs.Narrowing.{Searched};
@@ -24,7 +24,7 @@ ghost use Rattle.cdcl_core.specs.Rounds.{IsSearching, LeavesRound, IsSettledIn};
 ghost use Rattle.cdcl_core.specs.declared.solving.SearchOutcome.TheVariants as outcome;
 
 use crate::beginning::start;
-use crate::conflicts::{Conclusion, Conflict, clause_against, conflict_clause, told_row};
+use crate::conflicts::{Conclusion, Conflict, clause_against, conflict_clause};
 use crate::ending::tell_ending;
 use crate::failing::{Failure, fail};
 use crate::filling::{Filled, fill, nothing_filled};
@@ -33,18 +33,16 @@ use crate::learning::learn;
 use crate::originals::tell_originals;
 use crate::preferring::prefer_free;
 use crate::recovering::all_parities;
-use crate::refuted_rows::refute_row;
-use crate::refuting::is_refuted;
+use crate::refuting::{is_refuted, refute};
 use crate::schedule::{Schedule, follow_schedule};
 use cdcl_search::logs::SearchLog;
 use cdcl_search::{Found, Reached, SearchState, search_on, values_of};
 use conflict_learn::{CoreFault, Marks};
-use cx_base::{ClauseRef, Formula, Lit, LitList, LogEvent, ParityList, Row, Values, Var};
+use cx_base::{Formula, Lit, LitList, LogEvent, ParityList, Values, Var};
 use parity_engine::ParityEngine;
 use search_policy::Assumptions;
 use std::alloc::{AllocError, Global};
 use step_text::Sink;
-use xor_reason::reason_clause;
 
 /// What a search comes to.
 #[derive(Drop)]
@@ -156,89 +154,6 @@ fn conclude_conflict<P: ParityEngine, L: Sink<Item = LogEvent>>(
     }
 }
 
-/// What comes of a row that is not met at level 0: the end of the log, by all of the trail.
-fn conclude_refuted_row<P: ParityEngine, L: Sink<Item = LogEvent>>(
-    log: &mut SearchLog<L>,
-    state: &SearchState,
-    engine: &P,
-    marks: &mut Marks,
-    row: Row,
-) -> Result<LitList, CoreFault>
-    requires stands { Stands P.ParityEngine L.Sink log.old state.now engine.now [] }
-    requires clash { IsClash (P.state engine.now) row }
-    requires refuted { IsRefuted log.old.formula.now.constraints state.now.trail (found.Row row) }
-    requires clear { AreClear marks.old }
-    requires going { HasNotFailed L.Sink log.old }
-    ensures ends { TellsEnd L.Sink log.old state.now.conflicts log.new result }
-    ensures none { IfOk result (λ failed. failed ≡ []) }
-    ensures clear { OnOk result (AreClear marks.new) }
-{
-    let reason = reason_clause(log.alloc, engine, row, None, &state.trail)?;
-    if log.formula.is_ending(reason.clause.as_slice()) {
-        let ending = refute_row(log, state, engine, marks, reason)?;
-        return tell_ending(log, state, ending);
-    }
-    let conflict = told_row(log, state, engine, reason)?;
-    let below = state.trail.len();
-    fail(
-        log,
-        state,
-        engine,
-        marks,
-        Failure {
-            conflict,
-            kept: None,
-            below,
-        },
-    )
-}
-
-/// What comes of a clause whose literals are all false at level 0: the end of the log, by all of the trail.
-fn conclude_refuted_clause<P: ParityEngine, L: Sink<Item = LogEvent>>(
-    log: &mut SearchLog<L>,
-    state: &SearchState,
-    engine: &P,
-    marks: &mut Marks,
-    clause: ClauseRef,
-) -> Result<LitList, CoreFault>
-    requires stands { Stands P.ParityEngine L.Sink log.old state.now engine.now [] }
-    requires found { PropagationFinds state.now (P.state engine.now) (found.Clause clause) }
-    requires refuted { IsRefuted log.old.formula.now.constraints state.now.trail (found.Clause clause) }
-    requires clear { AreClear marks.old }
-    requires going { HasNotFailed L.Sink log.old }
-    ensures ends { TellsEnd L.Sink log.old state.now.conflicts log.new result }
-    ensures none { IfOk result (λ failed. failed ≡ []) }
-    ensures clear { OnOk result (AreClear marks.new) }
-{
-    let conclusion = conflict_clause(log, state, engine, Found::Clause(clause))?;
-    let below = state.trail.len();
-    end(log, state, engine, marks, conclusion, None, below)
-}
-
-/// What a conflict at level 0 comes to: the end of the log. No assumed literal fails.
-fn conclude_refuted<P: ParityEngine, L: Sink<Item = LogEvent>>(
-    log: &mut SearchLog<L>,
-    state: &SearchState,
-    engine: &P,
-    marks: &mut Marks,
-    found: Found,
-) -> Result<LitList, CoreFault>
-    requires stands { Stands P.ParityEngine L.Sink log.old state.now engine.now [] }
-    requires found { PropagationFinds state.now (P.state engine.now) found }
-    requires refuted { IsRefuted log.old.formula.now.constraints state.now.trail found }
-    requires clear { AreClear marks.old }
-    requires going { HasNotFailed L.Sink log.old }
-    ensures ends { TellsEnd L.Sink log.old state.now.conflicts log.new result }
-    ensures none { IfOk result (λ failed. failed ≡ []) }
-    ensures clear { OnOk result (AreClear marks.new) }
-{
-    match found {
-        Found::Clause(clause) => conclude_refuted_clause(log, state, engine, marks, clause),
-        Found::Row(row) => conclude_refuted_row(log, state, engine, marks, row),
-        Found::Quiet => unreachable!(),
-    }
-}
-
 /// What a literal comes to that contradicts an assumed one: the end of the log. A conflict at level 0 goes before it, since no assumed literal fails then.
 fn conclude_failed<P: ParityEngine, L: Sink<Item = LogEvent>>(
     log: &mut SearchLog<L>,
@@ -256,11 +171,11 @@ fn conclude_failed<P: ParityEngine, L: Sink<Item = LogEvent>>(
     requires clear { AreClear marks.old }
     requires going { HasNotFailed L.Sink log.old }
     ensures ends { TellsEnd L.Sink log.old state.now.conflicts log.new result }
-    ensures none { IsRefuted log.old.formula.now.constraints state.now.trail found → IfOk result (λ failed. failed ≡ []) }
+    ensures none { state.now.trail.level ≡ 0 → found ≢ Quiet → IfOk result (λ failed. failed ≡ []) }
     ensures clear { OnOk result (AreClear marks.new) }
 {
-    if is_refuted(log.formula, &state.trail, assumptions, &found) {
-        return conclude_refuted(log, state, engine, marks, found);
+    if is_refuted(state, &found) {
+        return refute(log, state, engine, marks, found);
     }
     let literal = state.trail.entry(place).literal;
     let conclusion = clause_against(log, state, engine, assumptions, place)?;

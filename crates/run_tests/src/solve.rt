@@ -198,7 +198,7 @@ fn assumed_literals_that_fail_are_told(rt: HostRuntime) -> Result<(), Fail> {
 }
 
 /// Formulas that propagation refutes at level 0, with assumptions that have no part in it, also where one is false there.
-const REFUTED_ALONE: [Case; 9] = [
+const REFUTED_ALONE: [Case; 13] = [
     (
         "p cnf 2 2\n0\na 1 -2 0\n",
         "1",
@@ -251,6 +251,33 @@ const REFUTED_ALONE: [Case; 9] = [
     // each literal of the parity is assumed, and known
     (
         "p cnf 2 4\nx1 2 0\n1 0\n2 0\na 1 2 0\n",
+        "1",
+        20,
+        "s UNSATISFIABLE\nc failed 0\n",
+    ),
+    // each parity's clause would end the log
+    (
+        "p cnf 2 4\nx1 0\nx2 0\n-1 -2 0\na -1 -2 0\n",
+        "1",
+        20,
+        "s UNSATISFIABLE\nc failed 0\n",
+    ),
+    (
+        "p cnf 3 5\nx1 0\nx2 0\nx3 0\n-1 -2 -3 0\na -1 -2 -3 0\n",
+        "1",
+        20,
+        "s UNSATISFIABLE\nc failed 0\n",
+    ),
+    // also that of the parity that is not met
+    (
+        "p cnf 3 5\nx1 0\n-1 2 0\n-1 3 0\nx2 3 0\na -1 2 3 0\n",
+        "1",
+        20,
+        "s UNSATISFIABLE\nc failed 0\n",
+    ),
+    // the first one has a literal that a unit clause makes false
+    (
+        "p cnf 4 7\nx1 2 0\n-2 0\n-1 3 0\nx3 4 0\n-3 4 0\na -1 -2 0\na -3 4 0\n",
         "1",
         20,
         "s UNSATISFIABLE\nc failed 0\n",

@@ -8,11 +8,14 @@ use Rattle.cdcl_core.proofs.solving.conclude_failed.Goals as goal
 pub end-requires-clause-going : goal.end-requires-clause-going
 end-requires-clause-going g c = c.in_ok-conclusion.ensures.log.failed ∙ c.requires.going
 
-pub conclude_refuted-requires-clause-refuted : goal.conclude_refuted-requires-clause-refuted
-conclude_refuted-requires-clause-refuted g c = c.is_refuted.ensures.refuted c.if-is_refuted.true
+pub refute-requires-clause-conflict : goal.refute-requires-clause-conflict
+refute-requires-clause-conflict g c = (c.is_refuted.ensures.refuted c.if-is_refuted.true).conflict
+
+pub refute-requires-clause-level : goal.refute-requires-clause-level
+refute-requires-clause-level g c = (c.is_refuted.ensures.refuted c.if-is_refuted.true).level
 
 pub returns-then-is_refuted-clause-none : goal.returns-then-is_refuted-clause-none
-returns-then-is_refuted-clause-none g c = λ r. c.conclude_refuted.ensures.none
+returns-then-is_refuted-clause-none g c = λ level conflict. c.refute.ensures.none
 
 pub returns-clause-ends : goal.returns-clause-ends
 returns-clause-ends g c = record {
@@ -21,7 +24,7 @@ returns-clause-ends g c = record {
 }
 
 pub returns-clause-none : goal.returns-clause-none
-returns-clause-none g c = λ r. absurd (c.is_refuted.ensures.other c.if-is_refuted.false r)
+returns-clause-none g c = λ level conflict. absurd (c.is_refuted.ensures.other c.if-is_refuted.false (record { conflict = conflict; level = level }))
 
 pub end-requires-clause-at : goal.end-requires-clause-at
 end-requires-clause-at g c =

@@ -2,15 +2,15 @@ use Rattle.std.proofs.Common.{◌∙◌, sym, ap, subst, IfOk, IsTrue, None, rul
 use Rattle.cx_base.specs.Literals.{Literal}
 use Rattle.cx_semantics.specs.Chain.{has_literal}
 use Rattle.conflict_learn.specs.Final.{IsFinal, StandsBelow}
-use Rattle.conflict_learn.specs.Learning.{literals_of}
-use Rattle.cdcl_search.specs.Sources.{IsSourcedBy, RowsAreApart}
+use Rattle.conflict_learn.specs.Learning.{AreHeld, literals_of}
 use Rattle.cdcl_search.proofs.Feeding.{trail_is_short}
 use Rattle.cdcl_search.proofs.Outcomes.{on_ok}
+use Rattle.cdcl_core.specs.Refuting.{IsHeldBeside}
 use Rattle.cdcl_core.proofs.LearnLaws.{stands_at}
-use Rattle.cdcl_core.proofs.refuted_rows.trace_all.Goals as goal
+use Rattle.cdcl_core.proofs.level_zero.trace_all.Goals as goal
 
 pub analyse_final-requires-clause-ready : goal.analyse_final-requires-clause-ready
-analyse_final-requires-clause-ready g c = (c.requires.stands, subst (RowsAreApart c.args.log.now.formula.now.constraints c.args.state.now.trail) (sym c.len-below.ensures.len) c.requires.apart, c.requires.going)
+analyse_final-requires-clause-ready g c = (c.requires.stands, c.requires.first, c.requires.going)
 
 pub analyse_final-requires-clause-room : goal.analyse_final-requires-clause-room
 analyse_final-requires-clause-room g c =
@@ -36,10 +36,21 @@ returns-clause-left g c =
     let new = c.analyse_final.new.source in
     let trail = c.args.state.now.trail in
     let rows = c.rows-1.given.0.items in
-    subst (λ n. IfOk c.analyse_final.result (λ x. IsFinal trail n None c.args.clause.now (IsSourcedBy c.args.state.now rows) x.resolved.items x.lits)) c.len-below.ensures.len
-    (subst (λ ls. IfOk c.analyse_final.result (λ x. IsFinal trail c.len-below.result None ls (IsSourcedBy c.args.state.now rows) x.resolved.items x.lits)) c.as_slice.ensures
-    (subst (λ rs. IfOk c.analyse_final.result (λ x. IsFinal trail c.len-below.result None c.as_slice.result.now (IsSourcedBy c.args.state.now rs) x.resolved.items x.lits)) (search rules)
-    (subst (λ k. IfOk c.analyse_final.result (λ x. IsFinal trail c.len-below.result None c.as_slice.result.now (IsSourcedBy k new.rows.now.items) x.resolved.items x.lits)) c.analyse_final.ensures.goes_on.0.state c.analyse_final.ensures.left)))
+    let loans = c.analyse_final.ensures.goes_on.0 in
+    subst (λ n. IfOk c.analyse_final.result (λ x. IsFinal trail n None c.args.clause.now (IsHeldBeside c.args.state.now rows c.args.first.now) x.resolved.items x.lits)) c.len-below.ensures.len
+    (subst (λ ls. IfOk c.analyse_final.result (λ x. IsFinal trail c.len-below.result None ls (IsHeldBeside c.args.state.now rows c.args.first.now) x.resolved.items x.lits)) c.as_slice.ensures
+    (subst (λ rs. IfOk c.analyse_final.result (λ x. IsFinal trail c.len-below.result None c.as_slice.result.now (IsHeldBeside c.args.state.now rs c.args.first.now) x.resolved.items x.lits)) (search rules)
+    (subst (λ f. IfOk c.analyse_final.result (λ x. IsFinal trail c.len-below.result None c.as_slice.result.now (IsHeldBeside c.args.state.now new.rows.now.items f) x.resolved.items x.lits)) loans.first
+    (subst (λ k. IfOk c.analyse_final.result (λ x. IsFinal trail c.len-below.result None c.as_slice.result.now (IsHeldBeside k new.rows.now.items new.first.now) x.resolved.items x.lits)) loans.state c.analyse_final.ensures.left))))
+
+pub returns-clause-held : goal.returns-clause-held
+returns-clause-held g c =
+    let new = c.analyse_final.new.source in
+    let rows = c.rows-1.given.0.items in
+    let loans = c.analyse_final.ensures.goes_on.0 in
+    subst (λ rs. AreHeld (IsHeldBeside c.args.state.now c.args.rows.now.items c.args.first.now) (IsHeldBeside c.args.state.now rs c.args.first.now)) (search rules)
+    (subst (λ f. AreHeld (IsHeldBeside c.args.state.now c.args.rows.now.items c.args.first.now) (IsHeldBeside c.args.state.now new.rows.now.items f)) loans.first
+    (subst (λ k. AreHeld (IsHeldBeside c.args.state.now c.args.rows.now.items c.args.first.now) (IsHeldBeside k new.rows.now.items new.first.now)) loans.state c.analyse_final.ensures.held))
 
 pub returns-clause-stand : goal.returns-clause-stand
 returns-clause-stand g c = subst (λ n. IfOk c.analyse_final.result (λ x. (l : Literal) → IsTrue (has_literal (literals_of x.resolved.items) l) → StandsBelow c.args.state.now.trail n l)) c.len-below.ensures.len c.analyse_final.ensures.stand
