@@ -10,7 +10,6 @@ pub mod UnitLaws
 pub mod RowReasons
 pub mod UnitSteps
 pub mod UnitParities
-pub mod LateUnits
 pub mod BesideUnits
 pub mod EngineLaws
 pub mod Rounds

@@ -25,7 +25,7 @@ use Rattle.cx_trail.specs.declared.entry.Reason.{Reason}
 use Rattle.cx_trail.specs.Sequence.{TrailState, TakesBack, pushed, IsTrueIn, IsOpenIn}
 use Rattle.conflict_learn.specs.declared.learning.Resolved.{Resolved}
 use Rattle.conflict_learn.specs.Final.{IsFinal}
-use Rattle.conflict_learn.specs.Learning.{Follows, IsAntecedent, IsLearned, IsOfLevel}
+use Rattle.conflict_learn.specs.Learning.{IsAntecedent, IsLearned, IsOfLevel}
 use Rattle.conflict_learn.specs.Levels.{Teaches}
 use Rattle.parity_engine.specs.declared.event.ParityEvent.{ParityEvent}
 use Rattle.parity_engine.specs.declared.state.Held.{Held}
@@ -162,13 +162,6 @@ UnitsKeep = OfSearch (λ formula parities s.
     (n : ℕ) (z : ℤ) (hints : List ℤ) (newer older : List Entry) (e : Entry) → s.trail ≡ newer ++ e ∷ older → e.level ≡ 0 → literal z ≡ e.literal → IsAddition formula s.moment.tables.clauses n (z ∷ [])
     → AreHintsFor s.moment.tables.clauses (literal z ∷ []) hints → IsFalse (derives_ending_clause formula (ClauseWithHints n (z ∷ []) hints)) → IsFalse s.moment.awaits → RestOnClauses older → (clause : List Literal) → IsLive s.moment.tables.clauses clause → Forces clause (all_held older) e.literal
     → IsSearch formula parities (unit_told s n z hints newer e older))
-
--- and that of a literal of level 0 whose negation is in a clause all of whose literals were traced to level 0; the clauses that these were resolved with are its hints
-abbrev pub LateUnitsKeep : Type 0
-LateUnitsKeep = OfSearch (λ formula parities s.
-    (n : ℕ) (z : ℤ) (hints : List ℤ) → IsAddition formula s.moment.tables.clauses n (z ∷ []) → IsFalse (derives_ending_clause formula (ClauseWithHints n (z ∷ []) hints)) → IsFalse s.moment.awaits
-    → IsTrue (has_literal (held 0 s.trail) (literal z)) → (trail : TrailState) (clause : List Literal) (resolved : List Resolved) → Follows trail clause (IsNamedBy s.moment.tables.clauses) resolved [] → IsTrue (has_literal clause (negate (literal z)))
-    → hints ≡ hints_from resolved → IsSearch formula parities (told s (Step (ClauseWithHints n (z ∷ []) hints))))
 
 -- and at level 0 that of a literal whose negation is in a clause that is not told, with right hints, where a chain by that clause and live ones is right
 abbrev pub UnitsBesideKeep : Type 0
