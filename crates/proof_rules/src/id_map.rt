@@ -274,7 +274,23 @@ fn trim<V: Drop + Filler>(near: &mut Vec<Page<V>>, page: usize)
 }
 
 /// Adds pages without values until there is the place of this id. Without memory some may have been added.
+#[inline(always)]
 fn reach<V: Drop + Filler>(near: &mut Vec<Page<V>>, id: u64) -> Result<(), AllocError>
+    ensures same { entries_of (places_of near.new.items) ≡ entries_of (places_of near.old.items) }
+    ensures reached { OnOk result (id < length (places_of near.new.items)) }
+{
+    let page = id / PLACES;
+    if page < near.len() as u64 {
+        Ok(())
+    } else {
+        add_pages(near, id)
+    }
+}
+
+/// Adds pages without values until there is the place of this id. Without memory some may have been added.
+// Mostly the page is there, and that path is not to pay for the loop.
+#[inline(never)]
+fn add_pages<V: Drop + Filler>(near: &mut Vec<Page<V>>, id: u64) -> Result<(), AllocError>
     ensures same { entries_of (places_of near.new.items) ≡ entries_of (places_of near.old.items) }
     ensures reached { OnOk result (id < length (places_of near.new.items)) }
 {

@@ -33,7 +33,7 @@ fn values_of<V: Copy + Drop + Filler>(
 {
     let mut found = Vec::with_capacity(alloc, moves.len())?;
     for place in 0..moves.len() {
-        found.push(value_of(values, moves[place].from))?;
+        found.push_reserved(value_of(values, moves[place].from));
     }
     Ok(found)
 }
@@ -65,7 +65,7 @@ fn take_all_out<V: Copy + Drop + Filler>(
         if value.is_none() {
             return Ok(false);
         }
-        found.push(value)?;
+        found.push_reserved(value);
     }
     Ok(true)
 }

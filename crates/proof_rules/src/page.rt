@@ -76,7 +76,8 @@ impl<V: Drop + Filler> Page<V> {
     pub(crate) fn get(&self, place: usize) -> Option<&V>
         ensures { MatchOption result (get_or self.now place None ≡ None) (λ value. get_or self.now place None ≡ Some value.now) }
     {
-        if place < self.places.len() && self.holds(place) {
+        // A place that holds a value is there, so that the list's length is not read.
+        if place < 64 && self.holds(place) {
             Some(&self.places[place])
         } else {
             None

@@ -1,6 +1,6 @@
 use Rattle.std.proofs.Common.{◌≡◌, length}
 use Rattle.proof_rules.specs.Places.{entries_of, places_of}
-use Rattle.proof_rules.proofs.id_map.reach.Given as goal
+use Rattle.proof_rules.proofs.id_map.add_pages.Given as goal
 
 abbrev pub invariant-loop : goal.invariant-loop
 invariant-loop g l =
