@@ -128,9 +128,11 @@ fn push_list(all: &mut Vec<Lit>, lits: &[Lit]) -> Result<Span, AllocError>
     })
 }
 
-/// How many literals the list of this id has, if there is one.
-fn len_of(spans: &IdMap<Span>, id: u64) -> usize {
-    match spans.get(id) {
+/// Takes the span of this id out, and tells how many literals it has, if there is one. It takes one look-up.
+fn take_span(spans: &mut IdMap<Span>, id: u64) -> usize
+    ensures { spans.new ≡ map.remove spans.old id }
+{
+    match spans.take(id) {
         Some(span) => span.len as usize,
         None => 0,
     }
@@ -203,8 +205,7 @@ impl KeptLists {
     pub(crate) fn remove(&mut self, id: u64)
         ensures { self.new ≡ map.remove self.old id }
     {
-        let len = len_of(&self.spans, id);
-        self.spans.remove(id);
+        let len = take_span(&mut self.spans, id);
         self.live = self.live.saturating_sub(len);
     }
 

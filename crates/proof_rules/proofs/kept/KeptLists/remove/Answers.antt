@@ -7,9 +7,9 @@ use Rattle.proof_rules.proofs.kept.KeptLists.remove.Goals as goal
 pub invariant_of-self : goal.invariant_of-self
 invariant_of-self c =
     let lits = c.self.inside.lits.items in
-    subst (AreWithin lits) (sym c.remove.ensures) (AreWithin-remove lits c.self.inside.spans c.args.id c.self.invariant)
+    subst (AreWithin lits) (sym c.take_span-len.ensures) (AreWithin-remove lits c.self.inside.spans c.args.id c.self.invariant)
 
 pub returns : goal.returns
 returns c =
     let lits = c.self.inside.lits.items in
-    ap (kept_in lits) c.remove.ensures ∙ kept_in-remove lits c.self.inside.spans c.args.id ∙ ap (λ t. map.remove t c.args.id) c.self.view_is
+    ap (kept_in lits) c.take_span-len.ensures ∙ kept_in-remove lits c.self.inside.spans c.args.id ∙ ap (λ t. map.remove t c.args.id) c.self.view_is
