@@ -14,7 +14,7 @@ use tidy_rules::relations::{has_both, lies_inside};
 
 /// What a log told up to some event.
 #[derive(Drop)]
-struct Told<'f> {
+struct LogPrefix<'f> {
     live: Live<'f>,
     /// Whether the clause that the last conflict taught is still to come.
     awaits: bool,
@@ -50,7 +50,12 @@ fn is_part(alloc: Global, live: &Live, lits: &[Lit]) -> Result<bool, AllocError>
 
 /// Whether a derived clause fits what was told before: a learned one is fresh, and another one that does not end the log is
 /// a unit clause that is not, or a part of a live clause.
-fn fits(alloc: Global, formula: &Formula, told: &Told, lits: &[Lit]) -> Result<bool, AllocError> {
+fn fits(
+    alloc: Global,
+    formula: &Formula,
+    told: &LogPrefix,
+    lits: &[Lit],
+) -> Result<bool, AllocError> {
     let fresh = is_fresh(alloc, &told.live, lits)?;
     if told.awaits {
         return Ok(!lits.is_empty() && fresh);
@@ -62,7 +67,7 @@ fn fits(alloc: Global, formula: &Formula, told: &Told, lits: &[Lit]) -> Result<b
 fn derive(
     alloc: Global,
     formula: &Formula,
-    told: &mut Told,
+    told: &mut LogPrefix,
     id: u64,
     lits: &[Lit],
 ) -> Result<bool, AllocError> {
@@ -81,7 +86,7 @@ fn derive(
 fn step(
     alloc: Global,
     formula: &Formula,
-    told: &mut Told,
+    told: &mut LogPrefix,
     step: &LogStep,
 ) -> Result<bool, AllocError> {
     match step {
@@ -104,7 +109,7 @@ fn step(
 fn event(
     alloc: Global,
     formula: &Formula,
-    told: &mut Told,
+    told: &mut LogPrefix,
     event: &LogEvent,
 ) -> Result<bool, AllocError> {
     match event {
@@ -123,7 +128,7 @@ fn judged(
     formula: &Formula,
     events: &[LogEvent],
 ) -> Result<Option<(u64, u64)>, AllocError> {
-    let mut told = Told {
+    let mut told = LogPrefix {
         live: Live::beside(alloc, formula),
         awaits: false,
         learned: 0,
