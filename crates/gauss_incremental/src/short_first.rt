@@ -80,7 +80,7 @@ impl ParityEngine for ShortFirst {
 
     fn assign(&mut self, var: Var, value: bool) {
         self.engine.assign(var, value);
-        self.looks.assign((var.number() - 1) as usize);
+        self.looks.assign((var.number() - 1) as usize, value);
         self.told = Told::ByMatrix;
     }
 
@@ -99,9 +99,10 @@ impl ParityEngine for ShortFirst {
     }
 
     fn back_to(&mut self, level: u32) {
+        let before = self.engine.count();
         self.engine.back_to(level);
         self.named.forget_above(level);
-        self.looks.take_back(&self.engine);
+        self.looks.take_back(&self.engine, before);
         self.told = Told::ByMatrix;
     }
 

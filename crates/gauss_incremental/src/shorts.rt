@@ -36,7 +36,7 @@ pub(crate) enum ShortKind {
 }
 
 /// Whether an odd number of the literals is negative.
-fn is_odd(lits: &[Lit]) -> bool
+pub(crate) fn is_odd(lits: &[Lit]) -> bool
     ensures { result ≡ (count_by (λ l. l.negative) lits.now % 2 == 1) }
 {
     lits.iter().filter(|lit| lit.is_negative()).count() % 2 == 1
