@@ -1,5 +1,5 @@
 -- The passes over a proof, step by step.
-use Rattle.std.proofs.Common.{◌≡◌, refl, sym, ap, ◌∙◌, subst, ℕ, suc, ◌+◌, ◌<◌, ◌≤◌, Bool, true, false, cond, not, ◌&&◌, ◌||◌, nat_eq, nat_lt, nat_le, List, [], ◌∷◌, ◌++◌, length, drop, get_or, Some, None, is_some, add-one, append_assoc, arith, ◌⊎◌, inl, inr}
+use Rattle.std.proofs.Common.{◌≡◌, refl, sym, ap, ◌∙◌, subst, ℕ, suc, ◌+◌, ◌<◌, ◌≤◌, Bool, true, false, cond, not, ◌&&◌, ◌||◌, nat_eq, nat_lt, nat_le, List, [], ◌∷◌, ◌++◌, length, drop, get_or, Some, None, is_some, true≢false, add-one, append_assoc, arith, ◌⊎◌, inl, inr}
 use Rattle.std.specs.List.{list_any}
 use Rattle.std.proofs.lemmas.Bool.{eqb-false, eq-eqb, ne_eqb, cases_eq, ltb-true, leb-true, lt-ltb, le-leb, and_parts, and_from, or_left, or_right, or_from}
 use Rattle.cx_base.specs.Literals.{Literal}
@@ -18,6 +18,7 @@ use Rattle.proof_trim.specs.Marking.{wants, marks_of, marked}
 use Rattle.proof_trim.specs.declared.names.NameSet.{NameSet}
 use Rattle.proof_trim.specs.NameSets.{Has, KeepsOne, has_name, name_of, is_number, live_after, stays_with, live_in}
 use Rattle.proof_trim.specs.Needed.{AreRising, AreCore}
+use Rattle.proof_trim.specs.Puts.{is_deletion}
 use Rattle.proof_trim.specs.Outcomes.{ListsNames}
 use Rattle.proof_trim.proofs.LookLaws.{Content, put_lits, look-after_step}
 use Rattle.proof_trim.proofs.NameLaws.{both_ways, or_joined}
@@ -135,6 +136,52 @@ keep_more marks place t s proof rest bs said whole old new long split h is one =
     chosen_more bs proof said s rest (ap (λ n. drop n proof) long ∙ split) ∙ ap (λ b. cond b (chosen bs proof ++ s ∷ []) (chosen bs proof)) one.0 in
     keep_by marks place t s rest (chosen bs proof) (chosen (bs ++ said ∷ []) proof) whole old new stayed same h
     (ap (λ (x : List ProofStep). chosen bs proof ++ staying (marked marks) (place + 1) t x) (sym split) ∙ is) kept one.1
+
+-- ---- where no step takes out anything
+
+no_left : (a b : Bool) → (a || b) ≡ false → a ≡ false
+no_left true b e = e
+no_left false b e = refl
+
+no_right : (a b : Bool) → (a || b) ≡ false → b ≡ false
+no_right true b e = absurd (true≢false e)
+no_right false b e = e
+
+none_more : (steps : List ProofStep) (s : ProofStep) → list_any is_deletion steps ≡ false → is_deletion s ≡ false → list_any is_deletion (steps ++ s ∷ []) ≡ false
+none_more [] s none e = ap (λ b. b || false) e
+none_more (x ∷ steps) s none e =
+    (λ i. no_left (is_deletion x) (list_any is_deletion steps) none i || list_any is_deletion (steps ++ s ∷ [])) ∙ none_more steps s (no_right (is_deletion x) (list_any is_deletion steps) none) e
+
+-- what is kept of whether some step deletes, with one step more
+pub still_none : (steps : List ProofStep) (s : ProofStep) (before : Bool) → (before ≡ false → list_any is_deletion steps ≡ false) → (is_deletion s || before) ≡ false → list_any is_deletion (steps ++ s ∷ []) ≡ false
+still_none steps s before kept e = none_more steps s (kept (no_right (is_deletion s) before e)) (no_left (is_deletion s) before e)
+
+marked_stays : (needed : ℕ → Bool) (n : ℕ) (t : Tables) (s : ProofStep) → is_deletion s ≡ false → stays needed n t s ≡ needed n
+marked_stays needed n t (variants.Clause id lits hints) e = refl
+marked_stays needed n t (variants.Parity id lits hints) e = refl
+marked_stays needed n t (variants.ClauseOfParity id lits hint) e = refl
+marked_stays needed n t (variants.ParityOfClauses id lits hints) e = refl
+marked_stays needed n t (variants.DeleteClauses id ids) e = absurd (true≢false e)
+marked_stays needed n t (variants.DeleteParities ids) e = absurd (true≢false e)
+
+chosen_one : (b : Bool) (marks : List Bool) (s : ProofStep) (proof : List ProofStep) → chosen (b ∷ marks) (s ∷ proof) ≡ cond b (s ∷ chosen marks proof) (chosen marks proof)
+chosen_one true marks s proof = refl
+chosen_one false marks s proof = refl
+
+-- just the steps that are marked stay
+pub all_marked : (needed : ℕ → Bool) (n : ℕ) (t : Tables) (marks : List Bool) (proof : List ProofStep) → length marks ≡ length proof → list_any is_deletion proof ≡ false
+    → ((k : ℕ) → needed (k + n) ≡ get_or marks k false) → chosen marks proof ≡ staying needed n t proof
+all_marked needed n t [] [] long none same = refl
+all_marked needed n t [] (s ∷ proof) long none same = absurd (omega (arith, long))
+all_marked needed n t (b ∷ marks) [] long none same = absurd (omega (arith, long))
+all_marked needed n t (b ∷ marks) (s ∷ proof) long none same =
+    let rest : (u : Tables) → chosen marks proof ≡ staying needed (suc n) u proof =
+    λ u. all_marked needed (suc n) u marks proof (omega (arith, long)) (no_right (is_deletion s) (list_any is_deletion proof) none) (λ k. let e : k + suc n ≡ suc k + n = omega arith in ap needed e ∙ same (suc k)) in
+    let first : n ≡ 0 + n = omega arith in
+    let stayed : stays needed n t s ≡ b = marked_stays needed n t s (no_left (is_deletion s) (list_any is_deletion proof) none) ∙ ap needed first ∙ same 0 in
+    chosen_one b marks s proof
+    ∙ (λ i. cond b (s ∷ rest (after_step t s) i) (rest t i))
+    ∙ ap (λ c. cond c (s ∷ staying needed (suc n) (after_step t s) proof) (staying needed (suc n) t proof)) (sym stayed)
 
 -- ---- numbers
 

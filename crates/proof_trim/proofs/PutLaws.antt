@@ -12,7 +12,7 @@ use Rattle.proof_trim.specs.declared.put.Put.{Put}
 use Rattle.proof_trim.specs.Integers.{part, signed, unsigned}
 use Rattle.proof_trim.specs.Marking.{puts_wanted, wanted_before}
 use Rattle.proof_trim.specs.Names.{Name, clause, parity, same_name, puts, has_hint}
-use Rattle.proof_trim.specs.NameSets.{Has, KeepsOne, has_name, hinted_as, live_after, name_of, stays_with, went_back}
+use Rattle.proof_trim.specs.NameSets.{Has, KeepsOne, has_name, hinted, hinted_as, live_after, name_of, names_put, stays_with, wants_put, went_back}
 use Rattle.proof_trim.specs.Puts.{hint_kind, put_by, put_of, step_at}
 use Rattle.proof_trim.specs.Stored.{code_of, kind_of, listed, packed, step_by, unpacked, IsPacked, AreStored, steps_at, start_at}
 use Rattle.proof_trim.proofs.NameLaws.{hinted_more, or_moved}
@@ -21,12 +21,7 @@ use Rattle.proof_trim.proofs.StoreLaws.{kind_back, begins, has_room, stands_at, 
 
 -- ---- a step by what it puts
 
--- the name is that of what is put
-abbrev names_put : Name → Option Put → Bool
-names_put name None = false
-names_put name (Some put) = same_name name (name_of put.kind put.id)
-
-puts_named : (s : ProofStep) (name : Name) → puts s name ≡ names_put name (put_of s)
+pub puts_named : (s : ProofStep) (name : Name) → puts s name ≡ names_put name (put_of s)
 puts_named (step.Clause n lits hints) name = refl
 puts_named (step.DeleteClauses n ids) name = refl
 puts_named (step.Parity n lits hints) name = refl
@@ -34,12 +29,7 @@ puts_named (step.DeleteParities ids) name = refl
 puts_named (step.ClauseOfParity n lits hint) name = refl
 puts_named (step.ParityOfClauses n lits hints) name = refl
 
--- what is put is wanted
-abbrev wants_put : (Name → Bool) → Option Put → Bool
-wants_put wanted None = false
-wants_put wanted (Some put) = wanted (name_of put.kind put.id)
-
-wanted_named : (wanted : Name → Bool) (s : ProofStep) → puts_wanted wanted s ≡ wants_put wanted (put_of s)
+pub wanted_named : (wanted : Name → Bool) (s : ProofStep) → puts_wanted wanted s ≡ wants_put wanted (put_of s)
 wanted_named wanted (step.Clause n lits hints) = refl
 wanted_named wanted (step.DeleteClauses n ids) = refl
 wanted_named wanted (step.Parity n lits hints) = refl
@@ -141,12 +131,7 @@ put_by_parts kind.DeleteParities n xs ys ids = refl
 put_by_parts kind.ClauseOfParity n xs ys ids = refl
 put_by_parts kind.ParityOfClauses n xs ys ids = refl
 
--- the hints, of what is of this kind, name it
-abbrev pub hinted : Option Kind → List ℤ → Name → Bool
-hinted None hints name = false
-hinted (Some kind) hints name = hinted_as kind hints name
-
--- the same of the integers of a step
+-- the hints among the integers of a step name it
 abbrev hinted_in : List ℤ → Name → Bool
 hinted_in zs name = hinted (hint_kind (kind_of (unsigned (get_or zs 0 (pos 0))))) (drop (unsigned (get_or zs 2 (pos 0))) (drop 3 zs)) name
 

@@ -1,5 +1,5 @@
 -- Sets of names, and what steps do to them.
-use Rattle.std.specs.Prelude.{◌≡◌, ℕ, ℤ, Bool, false, not, ◌&&◌, ◌||◌, nat_lt, nat_le, List, if◌then◌else◌}
+use Rattle.std.specs.Prelude.{◌≡◌, ℕ, ℤ, Bool, false, not, ◌&&◌, ◌||◌, nat_lt, nat_le, List, Option, Some, None, if◌then◌else◌}
 use Rattle.std.specs.List.{list_any}
 use Rattle.std.specs.Option.{is_some}
 use Rattle.cx_base.specs.declared.steps.ProofStep.{ProofStep}
@@ -8,6 +8,7 @@ use Rattle.cx_semantics.specs.Tables.{Tables}
 use Rattle.proof_rules.specs.declared.live.Kind.{Kind}
 use Rattle.proof_rules.specs.declared.live.Kind.TheVariants.{Clauses, Parities}
 use Rattle.proof_trim.specs.declared.names.NameSet.{NameSet}
+use Rattle.proof_trim.specs.declared.put.Put.{Put}
 use Rattle.proof_trim.specs.IdSets.{has_id}
 use Rattle.proof_trim.specs.Names.{Name, clause, parity, same_name, look, puts, takes_out, are_clauses, are_parities}
 
@@ -36,6 +37,21 @@ Has names test = (name : Name) → has_name names name ≡ test name
 abbrev pub hinted_as : Kind → List ℤ → Name → Bool
 hinted_as Clauses hints name = are_clauses hints name
 hinted_as Parities hints name = are_parities hints name
+
+-- the hints, of what is of this kind, name it
+abbrev pub hinted : Option Kind → List ℤ → Name → Bool
+hinted None hints name = false
+hinted (Some kind) hints name = hinted_as kind hints name
+
+-- the name is that of what is put
+abbrev pub names_put : Name → Option Put → Bool
+names_put name None = false
+names_put name (Some put) = same_name name (name_of put.kind put.id)
+
+-- what is put is wanted
+abbrev pub wants_put : (Name → Bool) → Option Put → Bool
+wants_put wanted None = false
+wants_put wanted (Some put) = wanted (name_of put.kind put.id)
 
 -- the ids are of constraints of this kind
 abbrev pub named_as : Kind → List ℕ → Name → Bool

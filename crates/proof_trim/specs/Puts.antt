@@ -1,5 +1,5 @@
 -- What a step puts, and of which kind its hints are.
-use Rattle.std.specs.Prelude.{ℕ, List, [], get_or, Option, Some, None}
+use Rattle.std.specs.Prelude.{ℕ, Bool, true, false, List, [], get_or, Option, Some, None}
 use Rattle.cx_base.specs.declared.steps.ProofStep.{ProofStep}
 use Rattle.cx_base.specs.declared.steps.ProofStep.TheVariants as step
 use Rattle.proof_rules.specs.declared.live.Kind.{Kind}
@@ -38,3 +38,12 @@ hint_kind kind.ParityOfClauses = Some Clauses
 -- the step at a place, from 0
 abbrev pub step_at : List ProofStep → ℕ → ProofStep
 step_at steps place = get_or steps place (step.DeleteParities [])
+
+-- the step only takes out
+abbrev pub is_deletion : ProofStep → Bool
+is_deletion (step.Clause n lits hints) = false
+is_deletion (step.DeleteClauses n ids) = true
+is_deletion (step.Parity n lits hints) = false
+is_deletion (step.DeleteParities ids) = true
+is_deletion (step.ClauseOfParity n lits hint) = false
+is_deletion (step.ParityOfClauses n lits hints) = false

@@ -1,12 +1,10 @@
 //! Back through a proof: which of its steps are needed, and what they name of the formula.
 ghost use Rattle.std.specs.Prelude.{◌≡◌, ◌<◌, ◌||◌, length, IfOk};
 ghost use Rattle.proof_trim.specs.Marking.{wanted_before, puts_wanted, wants, marks_of};
-ghost use Rattle.proof_trim.specs.Names.{has_hint, same_name};
-ghost use Rattle.proof_trim.specs.NameSets.{Has, has_name, name_of, went_back};
+ghost use Rattle.proof_trim.specs.NameSets.{Has, has_name};
 ghost use Rattle.proof_trim.specs.Puts.{step_at};
 
 use crate::names::NameSet;
-use crate::put::Put;
 use crate::store::StepStore;
 use cx_base::Formula;
 use std::alloc::{AllocError, Global};
@@ -20,26 +18,6 @@ pub(crate) struct FoundNeeded {
     pub(crate) wanted: NameSet,
 }
 
-/// Goes back over the step at a place, which puts this: whether it is needed.
-fn back_over_put(
-    wanted: &mut NameSet,
-    proof: &StepStore,
-    place: usize,
-    put: Put,
-    is_last: bool,
-) -> Result<bool, AllocError>
-    requires { place < length proof.now }
-    ensures needed { IfOk result (λ needed. needed ≡ (is_last || has_name wanted.old (name_of put.kind put.id))) }
-    ensures wanted { IfOk result (λ needed. Has wanted.new (went_back needed (has_hint (step_at proof.now place)) (λ name. same_name name (name_of put.kind put.id)) (has_name wanted.old))) }
-{
-    let was = wanted.take(put.kind, put.id);
-    let needed = is_last || was;
-    if needed {
-        proof.want_hints(place, wanted)?;
-    }
-    Ok(needed)
-}
-
 /// Goes back over the step at a place: whether it is needed.
 fn back_over(
     wanted: &mut NameSet,
@@ -51,10 +29,7 @@ fn back_over(
     ensures needed { IfOk result (λ needed. needed ≡ (is_last || puts_wanted (has_name wanted.old) (step_at proof.now place))) }
     ensures wanted { IfOk result (λ needed. Has wanted.new (wanted_before needed (step_at proof.now place) (has_name wanted.old))) }
 {
-    match proof.put_at(place) {
-        Some(put) => back_over_put(wanted, proof, place, put, is_last),
-        None => Ok(is_last),
-    }
+    proof.back_over(place, is_last, wanted)
 }
 
 /// Goes back through a proof of the formula, whose last step is needed: which other steps are, and what they name of the

@@ -25,7 +25,7 @@ impl Model for Integers {
 
 /// An id as an integer.
 #[inline(always)]
-fn signed(id: u64) -> i64
+pub(crate) fn signed(id: u64) -> i64
     ensures { result ≡ signed id }
 {
     if id < 1 << 63 {
@@ -37,7 +37,7 @@ fn signed(id: u64) -> i64
 
 /// The id of an integer.
 #[inline(always)]
-fn unsigned(integer: i64) -> u64
+pub(crate) fn unsigned(integer: i64) -> u64
     ensures { result ≡ unsigned integer }
 {
     if integer < 0 {

@@ -138,7 +138,7 @@ fn keep_at(
 
 /// Which steps stay: the needed ones, and the deletions of what is live among those that stayed. Each step is opened in
 /// the same place.
-pub(crate) fn keep(
+fn keep_live(
     alloc: Global,
     formula: &Formula,
     proof: &StepStore,
@@ -158,4 +158,26 @@ pub(crate) fn keep(
         kept.push(stays)?;
     }
     Ok(kept)
+}
+
+/// Which steps stay: the needed ones, and the deletions of what is live among those that stayed. What is live is followed only
+/// where some step deletes.
+pub(crate) fn keep(
+    alloc: Global,
+    formula: &Formula,
+    proof: &StepStore,
+    marks: Vec<bool>,
+    here: &mut OpenedStep,
+) -> Result<Vec<bool>, AllocError>
+    requires long { length marks.items ≡ length proof.now }
+    requires room { AllByRecursion (FitsIn here.old.room) proof.now }
+    ensures long { IfOk result (λ kept. length kept.items ≡ length proof.now) }
+    ensures kept { IfOk result (λ kept. chosen kept.items proof.now ≡ trimmed formula.now (marked marks.items) proof.now) }
+    ensures room { OnOk result (here.new.room ≡ here.old.room) }
+{
+    if proof.deletes() {
+        keep_live(alloc, formula, proof, &marks, here)
+    } else {
+        Ok(marks)
+    }
 }

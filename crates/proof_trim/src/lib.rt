@@ -2,6 +2,7 @@
 #![tactic(auto)]
 
 mod back;
+mod before;
 mod ids;
 mod integers;
 mod keep;

@@ -1,16 +1,18 @@
 //! Steps, packed: their integers lie one after another.
-ghost use Rattle.std.specs.Prelude.{◌≡◌, ◌<◌, ◌++◌, ◌||◌, ◌∷◌, suc, pos, [], length, map, drop, OnOk, IfOk};
-ghost use Rattle.std.specs.List.{AllByRecursion};
-ghost use Rattle.proof_trim.specs.Integers.{signed};
-ghost use Rattle.proof_trim.specs.Names.{has_hint};
+ghost use Rattle.std.specs.Prelude.{◌≡◌, ◌<◌, ◌++◌, ◌||◌, ◌∷◌, suc, pos, [], false, length, map, drop, get_or, OnOk, IfOk};
+ghost use Rattle.std.specs.List.{AllByRecursion, list_any};
+ghost use Rattle.proof_trim.specs.Integers.{signed, unsigned};
+ghost use Rattle.proof_trim.specs.Marking.{puts_wanted, wanted_before};
 ghost use Rattle.proof_trim.specs.NameSets.{Has, has_name};
-ghost use Rattle.proof_trim.specs.Puts.{put_of, step_at};
+ghost use Rattle.proof_trim.specs.Puts.{is_deletion, put_of, step_at};
 ghost use Rattle.proof_trim.specs.Stored.{FitsIn, listed, packed, start_at};
 
-use crate::integers::Integers;
+use crate::before::want_before;
+use crate::integers::{Integers, signed, unsigned};
+use crate::longer::LongerIntegers;
 use crate::names::NameSet;
 use crate::opened::{OpenedStep, StepKind, code_of, head_at};
-use crate::put::{Put, hint_kind, put_by};
+use crate::put::{Put, put_by};
 use cx_base::ProofStep;
 use std::alloc::{AllocError, Global};
 use std::marker::Model;
@@ -22,21 +24,25 @@ pub(crate) struct StepStore {
     /// Each step's kind, id, and how many literals it has, and then its literals, and its hints or ids.
     integers: Integers,
     /// Where each step ends.
-    ends: Integers,
+    ends: LongerIntegers,
     /// No step has more integers.
     longest: usize,
+    /// Whether some step deletes.
+    deletes: bool,
 }
 
 impl Model for StepStore {
-    ghost use Rattle.std.specs.Prelude.{List};
+    ghost use Rattle.std.specs.Prelude.{List, ◌≡◌, false};
+    ghost use Rattle.std.specs.List.{list_any};
     ghost use Rattle.cx_base.specs.declared.steps.ProofStep.{ProofStep};
+    ghost use Rattle.proof_trim.specs.Puts.{is_deletion};
     ghost use Rattle.proof_trim.specs.Stored.{AreStored, steps_at};
 
     ghost Value = { List ProofStep };
 
     ghost view = { λ a. steps_at a.integers 0 a.ends };
 
-    ghost invariant = { λ a. AreStored a.integers 0 a.ends a.longest };
+    ghost invariant = { λ a. AreStored a.integers 0 a.ends a.longest × (a.deletes ≡ false → list_any is_deletion (steps_at a.integers 0 a.ends) ≡ false) };
 }
 
 /// Packs a step's kind, id and lists after the others.
@@ -111,27 +117,49 @@ fn pack(integers: &mut Integers, step: &ProofStep) -> Result<(), AllocError>
 /// Packs a step after the others, and where it ends.
 fn pack_with_end(
     integers: &mut Integers,
-    ends: &mut Integers,
+    ends: &mut LongerIntegers,
     step: &ProofStep,
 ) -> Result<(), AllocError>
     ensures step { OnOk result (integers.new ≡ integers.old ++ packed step.now) }
     ensures end { OnOk result (ends.new ≡ ends.old ++ signed (length integers.new) ∷ []) }
 {
     pack(integers, step)?;
-    ends.push_id(integers.len() as u64)
+    ends.push(signed(integers.len() as u64))
+}
+
+/// Whether some step deletes: this one, or one of those before it.
+fn some_deletes(step: &ProofStep, before: bool) -> bool
+    ensures { result ≡ (is_deletion step.now || before) }
+{
+    match step {
+        ProofStep::DeleteClauses(_, _) | ProofStep::DeleteParities(_) => true,
+        ProofStep::Clause(_, _, _)
+        | ProofStep::Parity(_, _, _)
+        | ProofStep::ClauseOfParity(_, _, _)
+        | ProofStep::ParityOfClauses(_, _, _) => before,
+    }
 }
 
 /// Where the step at a place begins.
 #[inline(always)]
-fn start_of(ends: &Integers, place: usize) -> usize
+fn start_of(ends: &LongerIntegers, place: usize) -> usize
     requires { place < length ends.now }
     ensures { result ≡ start_at 0 ends.now place }
 {
     if place == 0 {
         0
     } else {
-        ends.id_at(place - 1) as usize
+        end_of(ends, place - 1)
     }
+}
+
+/// Where the step at a place ends.
+#[inline(always)]
+fn end_of(ends: &LongerIntegers, place: usize) -> usize
+    requires { place < length ends.now }
+    ensures { result ≡ unsigned (get_or ends.now place (pos 0)) }
+{
+    unsigned(ends.at(place)) as usize
 }
 
 impl StepStore {
@@ -141,8 +169,9 @@ impl StepStore {
     {
         StepStore {
             integers: Integers::new(alloc),
-            ends: Integers::new(alloc),
+            ends: LongerIntegers::new(alloc),
             longest: 0,
+            deletes: false,
         }
     }
 
@@ -169,7 +198,7 @@ impl StepStore {
         ensures room { opened.new.room ≡ opened.old.room }
     {
         let start = start_of(&self.ends, place);
-        let end = self.ends.id_at(place) as usize;
+        let end = end_of(&self.ends, place);
         opened.fill(&self.integers, start, end);
     }
 
@@ -180,24 +209,34 @@ impl StepStore {
         ensures { result ≡ put_of (step_at self.now place) }
     {
         let start = start_of(&self.ends, place);
-        let end = self.ends.id_at(place) as usize;
+        let end = end_of(&self.ends, place);
         let head = head_at(&self.integers, start, end);
         put_by(head.kind, head.id)
     }
 
-    /// Puts what the hints of the step at a place, from 0, name into a set. They are not copied.
-    pub(crate) fn want_hints(&self, place: usize, wanted: &mut NameSet) -> Result<(), AllocError>
+    /// Goes back over the step at a place, from 0: whether it is needed. Its head is taken once, and its literals not at all.
+    #[inline(always)]
+    pub(crate) fn back_over(
+        &self,
+        place: usize,
+        is_last: bool,
+        wanted: &mut NameSet,
+    ) -> Result<bool, AllocError>
         requires { place < length self.now }
-        ensures { OnOk result (Has wanted.new (λ name. has_hint (step_at self.now place) name || has_name wanted.old name)) }
+        ensures needed { IfOk result (λ needed. needed ≡ (is_last || puts_wanted (has_name wanted.old) (step_at self.now place))) }
+        ensures wanted { IfOk result (λ needed. Has wanted.new (wanted_before needed (step_at self.now place) (has_name wanted.old))) }
     {
         let start = start_of(&self.ends, place);
-        let end = self.ends.id_at(place) as usize;
+        let end = end_of(&self.ends, place);
         let head = head_at(&self.integers, start, end);
-        let hints = head.second_len();
-        match hint_kind(head.kind) {
-            Some(kind) => wanted.insert_hints(kind, &self.integers, end - hints, end),
-            None => Ok(()),
-        }
+        want_before(wanted, &head, &self.integers, end, is_last)
+    }
+
+    /// Whether some step may delete.
+    pub(crate) fn deletes(&self) -> bool
+        ensures { result ≡ false → list_any is_deletion self.now ≡ false }
+    {
+        self.deletes
     }
 }
 
@@ -210,6 +249,7 @@ impl Recorder for StepStore {
         match pack_with_end(&mut self.integers, &mut self.ends, step) {
             Ok(()) => {
                 self.longest = self.longest.max(self.integers.len() - start);
+                self.deletes = some_deletes(step, self.deletes);
                 Ok(())
             }
             Err(e) => {

@@ -42,10 +42,11 @@ fn trimmed_of(alloc: Global, formula: &Formula, proof: StepStore) -> Result<Trim
     ensures { IfOk result (Trims formula.now proof) }
 {
     let found = go_back(alloc, formula, &proof)?;
-    let clauses = numbers_in(alloc, &found.wanted, Kind::Clauses, formula.clause_count())?;
-    let parities = numbers_in(alloc, &found.wanted, Kind::Parities, formula.parity_count())?;
+    let FoundNeeded { marks, wanted } = found;
+    let clauses = numbers_in(alloc, &wanted, Kind::Clauses, formula.clause_count())?;
+    let parities = numbers_in(alloc, &wanted, Kind::Parities, formula.parity_count())?;
     let mut here = proof.opened(alloc)?;
-    let stays = keep(alloc, formula, &proof, &found.marks, &mut here)?;
+    let stays = keep(alloc, formula, &proof, marks, &mut here)?;
     Ok(Trimmed {
         steps: KeptSteps::of(proof, stays, here),
         clauses,

@@ -9,7 +9,7 @@ use Rattle.proof_trim.proofs.PassLaws.{length-marks, core_listed}
 use Rattle.proof_trim.proofs.trimming.trimmed_of.Goals as goal
 
 pub keep-requires-clause-long : goal.keep-requires-clause-long
-keep-requires-clause-long c = ap length (c.deref.ensures.value ∙ c.in_ok-found.ensures.marks) ∙ length-marks c.args.proof
+keep-requires-clause-long c = ap length (c.in_ok-found.ensures.marks) ∙ length-marks c.args.proof
 
 pub of-requires-clause-room : goal.of-requires-clause-room
 of-requires-clause-room c = subst (λ room. AllByRecursion (FitsIn room) c.args.proof) (sym c.in_ok-stays.ensures.room) c.in_ok-here.ensures
@@ -17,7 +17,7 @@ of-requires-clause-room c = subst (λ room. AllByRecursion (FitsIn room) c.args.
 pub returns : goal.returns
 returns c =
     let proof = c.args.proof in
-    let marks : c.deref.result.now ≡ marks_of proof = c.deref.ensures.value ∙ c.in_ok-found.ensures.marks in
+    let marks : c.in_ok-found.found.marks.items ≡ marks_of proof = c.in_ok-found.ensures.marks in
     let has = c.in_ok-found.ensures.wanted in
     record {
       needed = marked (marks_of proof);

@@ -7,6 +7,6 @@ use Rattle.proof_trim.proofs.store.StepStore.opened.Goals as goal
 
 pub returns : goal.returns
 returns c =
-    let fit = all_fit c.self.inside.integers 0 c.self.inside.ends c.self.inside.longest c.self.invariant in
+    let fit = all_fit c.self.inside.integers 0 c.self.inside.ends c.self.inside.longest c.self.invariant.0 in
     let here = subst (λ (steps : List ProofStep). AllByRecursion (FitsIn c.self.inside.longest) steps) c.self.view_is fit in
     if_ok c.with_room.result _ _ (λ opened e. subst (λ room. AllByRecursion (FitsIn room) c.args.self.now) (sym e) here) c.with_room.ensures

@@ -4,7 +4,7 @@ use Rattle.proof_trim.specs.Kept.{chosen}
 use Rattle.proof_trim.specs.Marking.{marked}
 use Rattle.proof_trim.specs.NameSets.{Has, live_in}
 use Rattle.proof_trim.specs.Trimmed.{staying, trimmed}
-use Rattle.proof_trim.proofs.keep.keep.Given as goal
+use Rattle.proof_trim.proofs.keep.keep_live.Given as goal
 
 abbrev pub invariant-loop-place : goal.invariant-loop-place
 invariant-loop-place l = record {
