@@ -1,7 +1,7 @@
 #!/usr/bin/env bash
 # Times `cxsat elab` on a log and on the same log with moves of ids in it, whose proofs must be the same byte by byte: on logs that
-# `solve` writes with moves drawn by bench/make/moves.py, and on logs of a million steps every tenth of which moves a hundred ids, one of an
-# implication chain with the least steps that there are and one of pigeonholes whose clauses are wide. Each is measured at half its
+# `solve` writes with moves drawn by bench/make/moves.py, the longest of a million steps, and on logs of a million steps every tenth of which
+# moves a hundred ids, one of an implication chain with the least steps that there are and one of pigeonholes whose clauses are wide. Each is measured at half its
 # size too. With another program of the same commands in BEFORE its instructions on the logs without moves stand beside.
 # usage: [BEFORE=PROGRAM] bench/measure/moves.sh [CHAIN [HOLES]]
 set -euo pipefail
@@ -64,6 +64,7 @@ measure() {
 }
 
 own 'random 3-clauses, variables:' random 200 3
+own 'random 3-clauses, variables:' random 280 4
 own 'pigeonholes:' holes 7 1
 own 'parities and clauses, variables:' mixed 200 200
 own 'ladder as clauses, rungs:' ladder 1000 1
