@@ -11,4 +11,5 @@ mod Leaving
 mod EntryOrder
 mod MovedTies
 mod TakingMoves
+pub mod OwnHints
 pub mod ContentIndex

@@ -18,7 +18,7 @@ use Rattle.cx_semantics.proofs.SameSets.{HaveSame-by_test}
 use Rattle.proof_rules.specs.declared.refusal.JudgeRefusal.{JudgeRefusal}
 use Rattle.proof_rules.proofs.ChainSteps.{right_holds}
 use Rattle.fratx_elab.specs.Names.{Naming, Names, stands_for, hints_for, name_original, name_next, drop_name}
-use Rattle.fratx_elab.specs.Elaborates.{IsClauseNumber, IsParityNumber, number_of_clauses, number_of_parities, deleted_id, clause_deletion, parity_deletion}
+use Rattle.fratx_elab.specs.Elaborates.{KeepsHints, IsClauseNumber, IsParityNumber, number_of_clauses, number_of_parities, deleted_id, clause_deletion, parity_deletion}
 use Rattle.fratx_elab.specs.Ties.{AreTied, HaveSameForm}
 use Rattle.fratx_elab.specs.Takes.{TakesLogStep, names_of}
 use Rattle.fratx_elab.specs.declared.state.State.{State}
@@ -115,10 +115,11 @@ module _ (formula : Problem) (old new : State) where
   free_parity : (tables : Tables) (lits : List ℤ) (n : ℕ) → Tied_ tables → AllHold (adding formula old.live.parities n lits) → AllHold (adding formula tables.parities (old.parities.last + 1) lits)
   free_parity tables lits n tied added = (added.0, (next_is_free HaveSameForm _ old.live.parities tables.parities old.parities tied.parities, tt))
 
-  pub takes_clause : (n : ℕ) (lits : List ℤ) (ids : List ℕ) (s : ProofStep) → AllHold (adding formula old.live.clauses n lits) → AreLive old.live.clauses ids → IsChain (literals lits) (named old.live.clauses ids)
+  pub takes_clause : (n : ℕ) (lits given : List ℤ) (ids : List ℕ) (s : ProofStep) → AllHold (adding formula old.live.clauses n lits) → AreLive old.live.clauses ids → IsChain (literals lits) (named old.live.clauses ids)
+      → KeepsHints old.clauses old.live.clauses (literals lits) given (hints_for old.clauses ids)
       → new.live ≡ put_clause old.live n (literals lits) → new.clauses ≡ name_next old.clauses n → new.parities ≡ old.parities
-      → s ≡ proof.Clause (old.clauses.last + 1) lits (hints_for old.clauses ids) → TakesLogStep formula old (log.Clause n lits) (Ok (Some s)) new
-  takes_clause n lits ids s added live chain e f g is = subst (λ (w : ProofStep). TakesLogStep formula old (log.Clause n lits) (Ok (Some w)) new) (sym is) (
+      → s ≡ proof.Clause (old.clauses.last + 1) lits (hints_for old.clauses ids) → TakesLogStep formula old (log.ClauseWithHints n lits given) (Ok (Some s)) new
+  takes_clause n lits given ids s added live chain kept e f g is = subst (λ (w : ProofStep). TakesLogStep formula old (log.ClauseWithHints n lits given) (Ok (Some w)) new) (sym is) (
     (added.0, (added.1.0, ((ids, live, chain), tt))),
     e,
     λ tables (tied : Tied_ tables).
@@ -126,7 +127,7 @@ module _ (formula : Problem) (old new : State) where
         let ns = numbers old.clauses ids in
         let right = chain_alike (literals lits) (named old.live.clauses ids) (named tables.clauses ns) a.0 chain in
         let chained = subst (λ cs. AllHold (chaining (literals lits) cs)) (sym (named_hints tables.clauses ns)) (right_holds (literals lits) (named tables.clauses ns) (sym right)) in (
-          ((hints_for old.clauses ids, refl), named_both _ _ f g),
+          ((hints_for old.clauses ids, refl, kept), named_both _ _ f g),
           (
             (let f = free_clause tables lits n tied added in let h = hints_hold tables.clauses ns a.1 in (f.0, (f.1.0, (h.0, (h.1.0, chained))))),
             refl,
@@ -285,9 +286,9 @@ module _ (formula : Problem) (old new : State) where
         ),
   )
 
--- the hints of a log have no meaning
-pub taken_with_hints : (formula : Problem) (old new : State) (n : ℕ) (lits hints : List ℤ) (r : Result (Option ProofStep) JudgeRefusal)
-    → TakesLogStep formula old (log.Clause n lits) r new → TakesLogStep formula old (log.ClauseWithHints n lits hints) r new
-taken_with_hints formula old new n lits hints (Ok None) h = h
-taken_with_hints formula old new n lits hints (Ok (Some s)) h = h
-taken_with_hints formula old new n lits hints (Err why) h = h
+-- a clause without hints is one with none
+pub taken_without_hints : (formula : Problem) (old new : State) (n : ℕ) (lits : List ℤ) (r : Result (Option ProofStep) JudgeRefusal)
+    → TakesLogStep formula old (log.ClauseWithHints n lits []) r new → TakesLogStep formula old (log.Clause n lits) r new
+taken_without_hints formula old new n lits (Ok None) h = h
+taken_without_hints formula old new n lits (Ok (Some s)) h = h
+taken_without_hints formula old new n lits (Err why) h = h

@@ -8,7 +8,7 @@ use Rattle.cx_semantics.specs.declared.cause.Cause.{Cause}
 use Rattle.cx_semantics.specs.declared.cause.Cause.TheVariants as causes
 use Rattle.cx_base.specs.Endings.{Ending, bad_token, too_big, unterminated}
 use Rattle.cx_semantics.specs.Judging.{FirstFailure, IsRight, Runs, AcceptedAt, IsOpen, end_cause}
-use Rattle.cx_semantics.specs.LogRules.{log_calculus, log_rules, derives_ending_clause}
+use Rattle.cx_semantics.specs.LogRules.{log_calculus, log_rules, after_log_step, derives_ending_clause}
 use Rattle.cx_semantics.specs.ProofRules.{proof_calculus, after_step}
 use Rattle.cx_semantics.specs.Tables.{Tables, first_tables, no_tables}
 use Rattle.cx_semantics.proofs.JudgingLaws.{runs_push}
@@ -42,12 +42,13 @@ take_front : {A : Type 0} (xs ys : List A) → take (length xs) (xs ++ ys) ≡ x
 take_front [] ys = refl
 take_front (x ∷ xs) ys = ap (λ zs. x ∷ zs) (take_front xs ys)
 
-elaborates_push : (formula : Problem) (first : Names) (steps : List LogStep) (written : List ProofStep) (middle : Names) (s : LogStep) (now : List ProofStep) (last : Names)
-    → Elaborates formula first steps written middle → Writes formula middle s now last → Elaborates formula first (steps ++ s ∷ []) (written ++ now) last
-elaborates_push formula first [] written middle s now last (e, f) h =
-    (now, [], last, ap (λ w. w ++ now) e ∙ sym (append-nil now), subst (λ (m : Names). Writes formula m s now last) f h, (refl, refl))
-elaborates_push formula first (x ∷ steps) written middle s now last (one, rest, between, e, w, r) h =
-    (one, rest ++ now, between, ap (λ v. v ++ now) e ∙ append_assoc one rest now, w, elaborates_push formula between steps rest middle s now last r h)
+elaborates_push : (formula : Problem) (first : Names) (live : Tables) (steps : List LogStep) (written : List ProofStep) (middle : Names) (there : Tables) (s : LogStep) (now : List ProofStep) (last : Names)
+    → Runs (log_calculus formula) live steps there → Elaborates formula first live steps written middle → Writes formula middle there s now last → Elaborates formula first live (steps ++ s ∷ []) (written ++ now) last
+elaborates_push formula first live [] written middle there s now last runs (e, f) h =
+    let here = subst (λ (t : Tables). Writes formula first t s now last) runs (subst (λ (m : Names). Writes formula m there s now last) f h) in
+    (now, [], last, ap (λ w. w ++ now) e ∙ sym (append-nil now), here, (refl, refl))
+elaborates_push formula first live (x ∷ steps) written middle there s now last runs (one, rest, between, e, w, r) h =
+    (one, rest ++ now, between, ap (λ v. v ++ now) e ∙ append_assoc one rest now, w, elaborates_push formula between (after_log_step live x) steps rest middle there s now last runs.2 r h)
 
 module _ {X : Type 0} (leaves : X → List LogStep → Ending → Type 0) (told : X → Option (List ProofStep)) (torn : X → ProofStep → Type 0)
     (formula : Problem) (first old new : X) (state : State) (count : ℕ) (kept : Kept leaves told torn formula first old state count) where
@@ -100,11 +101,11 @@ module _ {X : Type 0} (leaves : X → List LogStep → Ending → Type 0) (told 
     refusal_turns after refusal.Memory f t = gained_so_far (IsOpen (proof_calculus formula)) t open_so_far
 
     module _ (after : State) (written : Option ProofStep) (taken : TakesLogStep formula state step (Ok written) after) where
-      part : Writes formula (names_of state) step (listed written) (names_of after) × KeepsTie formula kept.tables after (derives_ending_clause formula step) written
+      part : Writes formula (names_of state) state.live step (listed written) (names_of after) × KeepsTie formula kept.tables after (derives_ending_clause formula step) written
       part = taken.2 kept.tables kept.tied
 
       both_steps : IsProofOf formula (kept.before ++ step ∷ []) (kept.written ++ listed written)
-      both_steps = (names_of after, elaborates_push formula (first_names formula) kept.before kept.written (names_of state) step (listed written) (names_of after) kept.elaborated part.0)
+      both_steps = (names_of after, elaborates_push formula (first_names formula) no_tables kept.before kept.written (names_of state) state.live step (listed written) (names_of after) kept.log_runs kept.elaborated part.0)
 
       told_on : (w : Option ProofStep) → WritesDown (told old) (told new) (torn new) w (took tt) → (start : List ProofStep) → told first ≡ Some start → told new ≡ Some (start ++ (kept.written ++ listed w))
       told_on (Some s) e start f = e ∙ ap (with_next s) (kept.told_all start f) ∙ ap Some (append_assoc start kept.written (s ∷ []))
@@ -162,7 +163,7 @@ module _ {X : Type 0} (leaves : X → List LogStep → Ending → Type 0) (told 
             tables = on.0;
             log_runs = subst (λ (u : Tables). Runs (log_calculus formula) no_tables (kept.before ++ step ∷ []) u) (sym taken.1) (runs_push (log_calculus formula) no_tables kept.before step state.live kept.log_runs taken.0 e);
             proof_runs = on.1;
-            elaborated = elaborates_push formula (first_names formula) kept.before kept.written (names_of state) step (listed written) (names_of after) kept.elaborated part.0;
+            elaborated = elaborates_push formula (first_names formula) no_tables kept.before kept.written (names_of state) state.live step (listed written) (names_of after) kept.log_runs kept.elaborated part.0;
             tied = on.2;
             number = omega (arith, kept.number, length-append kept.before (step ∷ []));
             left = λ steps ending h. subst (λ (ss : List LogStep). leaves first ss ending) (sym (append_assoc kept.before (step ∷ []) steps)) (kept.left (step ∷ steps) ending (follows steps ending h));

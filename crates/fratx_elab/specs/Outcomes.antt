@@ -64,7 +64,7 @@ module _ {X : Type 0} (leaves : X → List LogStep → Ending → Type 0) (told 
     pub tables : Tables
     pub log_runs : Runs (log_calculus formula) no_tables before state.live
     pub proof_runs : Runs (proof_calculus formula) (first_tables formula) written tables
-    pub elaborated : Elaborates formula (first_names formula) before written (names_of state)
+    pub elaborated : Elaborates formula (first_names formula) no_tables before written (names_of state)
     pub tied : AreTied formula state.live tables (names_of state)
     pub number : count ≡ length before
     pub left : (steps : List LogStep) (ending : Ending) → leaves now steps ending → leaves first (before ++ steps) ending

@@ -35,7 +35,7 @@ KeepsTie formula proof new ends None = (ends ≡ false) × AreTied formula new.l
 abbrev pub TakesLogStep : Problem → State → LogStep → Result (Option ProofStep) JudgeRefusal → State → Type 0
 TakesLogStep formula old step (Ok written) new =
     IsRight (log_calculus formula) old.live step × (new.live ≡ after_log_step old.live step)
-    × ((proof : Tables) → AreTied formula old.live proof (names_of old) → Writes formula (names_of old) step (listed written) (names_of new) × KeepsTie formula proof new (derives_ending_clause formula step) written)
+    × ((proof : Tables) → AreTied formula old.live proof (names_of old) → Writes formula (names_of old) old.live step (listed written) (names_of new) × KeepsTie formula proof new (derives_ending_clause formula step) written)
 TakesLogStep formula old step (Err why) new = IsRefusedBy (log_rules formula old.live step) why
 
 -- a text can have what is written

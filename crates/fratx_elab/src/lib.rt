@@ -5,6 +5,7 @@ mod content_index;
 mod delete;
 mod elaboration;
 mod ends;
+mod laws;
 mod moving;
 mod naming;
 mod one_step;
@@ -17,5 +18,6 @@ mod take;
 mod walk;
 
 pub use ends::{ElabEnds, Joined};
+pub use laws::right_hints_are_kept;
 pub use outcome::{Elab, ElabFault};
 pub use walk::elaborate;

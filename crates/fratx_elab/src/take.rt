@@ -10,6 +10,7 @@ ghost use Rattle.cx_semantics.specs.Tables.{Tables, is_live, named};
 ghost use Rattle.cx_base.specs.declared.steps.LogStep.TheVariants as step;
 ghost use Rattle.proof_rules.specs.Kinds.{put_constraint};
 ghost use Rattle.fratx_elab.specs.Contents.{StandsFor};
+ghost use Rattle.fratx_elab.specs.Elaborates.{KeepsHints};
 ghost use Rattle.fratx_elab.specs.Names.{AreNamed, IsProofId, stands_for, hints_for};
 ghost use Rattle.fratx_elab.specs.Takes.{TakesLogStep, Admits, GivesChain, SettlesHints, CanBePrinted, CountsOneMore, names_of};
 ghost use Rattle.fratx_elab.specs.Ties.{AreTied};
@@ -150,8 +151,8 @@ fn chain_of(
     }
 }
 
-/// Makes the hints that the log gives for a clause those of the proof: they stay as they are, up to the end of a right chain, where
-/// they are one; otherwise those of another chain come in their place.
+/// Makes the hints that the log gives for a clause those of the proof: they keep what they name, up to the end of a right chain,
+/// where they are one; otherwise those of another chain come in their place.
 #[inline(always)]
 fn settle_hints(
     alloc: Global,
@@ -163,6 +164,7 @@ fn settle_hints(
     requires keyed { (n : ℕ) → is_live live.old.clauses n ≡ is_some (stands_for names.now n) }
     ensures same { live.new ≡ live.old }
     ensures chain { SettlesHints live.old.clauses names.now target.now result hints.new }
+    ensures kept { OnOk result (KeepsHints names.now live.old.clauses target.now hints.old hints.new) }
 {
     if let Some(count) = live.chain_length(target.as_slice(), hints.as_slice())? {
         shorten(alloc, hints, count);
@@ -284,7 +286,7 @@ impl Elaboration<'_> {
     ) -> Result<Option<ProofStep>, JudgeRefusal>
         requires room { state.old.clauses.last < MAX_ID }
         requires tied { (proof : Tables) × AreTied self.now.formula.now state.old.live proof (names_of state.old) }
-        ensures taken { TakesLogStep self.now.formula.now state.old (step.Clause id lits) result state.new }
+        ensures taken { TakesLogStep self.now.formula.now state.old (step.ClauseWithHints id lits hints) result state.new }
         ensures text { IfOk result CanBePrinted }
         ensures counts { OnOk result (CountsOneMore state.old state.new) }
     {

@@ -1,15 +1,17 @@
 -- One more hint at the start of a list.
-use Rattle.std.proofs.Common.{◌≡◌, refl, sym, ap, ◌∙◌, ℕ, ◌+◌, ◌<◌, ℤ, nat_abs, List, [], ◌∷◌, ◌++◌, length, take, get_or, append_assoc, append-nil, is_some, Some, false, ◌||◌}
-use Rattle.std.proofs.lemmas.List.{take_more}
+use Rattle.std.proofs.Common.{◌≡◌, refl, sym, ap, ◌∙◌, subst, ℕ, zero, suc, ◌+◌, ◌<◌, ◌≤◌, ℤ, nat_abs, List, [], ◌∷◌, ◌++◌, length, take, get_or, append_assoc, append-nil, Option, is_some, Some, None, true, false, ◌||◌, true≢false, inl, inr, arith}
+use Rattle.std.proofs.lemmas.List.{take_more, map-append}
 use Rattle.std.proofs.lemmas.List.Folds.{list_any-append}
-use Rattle.std.specs.List.{list_any}
+use Rattle.std.specs.List.{list_any, cons_option}
+use Rattle.std.proofs.lemmas.Bool.{cases_lt, or_parts}
+use Rattle.std.proofs.lemmas.List.Elements.{filter_map-append}
 use Rattle.cx_base.specs.Integers.{is_negative, sizes}
 use Rattle.cx_base.specs.Literals.{Literal}
-use Rattle.cx_semantics.specs.Chain.{negations, left, none, one, count_left, HaveSame, chain, go_on}
-use Rattle.cx_semantics.specs.Tables.{Table, get, named}
+use Rattle.cx_semantics.specs.Chain.{negations, left, none, one, more, count_left, HaveSame, right, not_unit, hints_end, chain, go_on}
+use Rattle.cx_semantics.specs.Tables.{Table, get, is_live, named}
 use Rattle.cx_semantics.specs.LogRules.{AreLive}
 use Rattle.proof_rules.proofs.ChainSteps.{chain-one, chain-same}
-use Rattle.rup_finder.specs.Front.{HasReached, IsLiveChain, NoneNegative}
+use Rattle.rup_finder.specs.Front.{HasReached, IsLiveChain, IsFrontChain, NoneNegative, NamesClause}
 use Rattle.rup_finder.proofs.Propagation.{live_push, named_push}
 
 pub reached_first : (table : Table) (target assumed : List Literal) → HaveSame assumed (negations target) → HasReached table target [] assumed
@@ -57,3 +59,69 @@ none_more hints place d less before this =
     ∙ list_any-append is_negative (take place hints) (get_or hints place d ∷ [])
     ∙ ap (λ b. b || (is_negative (get_or hints place d) || false)) before
     ∙ ap (λ b. b || false) this
+
+-- ---- lists
+
+take_past : (hints : List ℤ) (place k : ℕ) (d : ℤ) → place < length hints → place < k → (later : List ℤ) × (take k hints ≡ take place hints ++ get_or hints place d ∷ later)
+take_past [] place k d less past = absurd (omega (arith, less))
+take_past (z ∷ hints) place zero d less past = absurd (omega (arith, past))
+take_past (z ∷ hints) zero (suc k) d less past = (take k hints, refl)
+take_past (z ∷ hints) (suc place) (suc k) d less past =
+    let r = take_past hints place k d (omega (arith, less)) (omega (arith, past)) in (r.0, ap (λ zs. z ∷ zs) r.1)
+
+not_negative : (before : List ℤ) (z : ℤ) (later : List ℤ) → NoneNegative (before ++ z ∷ later) → is_negative z ≡ false
+not_negative before z later h = (or_parts _ _ (or_parts _ _ (sym (list_any-append is_negative before (z ∷ later)) ∙ h)).1).0
+
+live_within : (table : Table) (ids : List ℕ) (id : ℕ) (later : List ℕ) → AreLive table (ids ++ id ∷ later) → is_live table id ≡ true
+live_within table [] id later h = h.0
+live_within table (n ∷ ids) id later h = live_within table ids id later h.1
+
+clause_of : (table : Table) (id : ℕ) → is_live table id ≡ true → (clause : List Literal) × (get table id ≡ Some clause)
+clause_of table id live = go (get table id) refl live
+  where
+    go : (o : Option (List Literal)) → get table id ≡ o → is_some o ≡ true → (clause : List Literal) × (get table id ≡ Some clause)
+    go (Some clause) is h = (clause, is)
+    go None is h = absurd (true≢false (sym h))
+
+-- ---- which first hints are a chain
+
+module _ (P : ℕ → Type 0) (place : ℕ) (before : (k : ℕ) → k ≤ place → ¬ P k) where
+  -- the first number of which it holds is a later one
+  pub least_next : (k : ℕ) → P k → place + 1 ≤ k
+  least_next k h = elim (cases_lt place k) [ inl less ↦ omega (arith, less) | inr within ↦ absurd (before k within h) ]
+
+  pub none_next : ¬ P (place + 1) → (k : ℕ) → k ≤ place + 1 → ¬ P k
+  none_next next k within h = elim (cases_lt place k) [
+    | inl less ↦ let is : k ≡ place + 1 = omega (arith, less, within) in next (subst P is h)
+    | inr low ↦ before k low h
+  ]
+
+  pub none_at_all : ((k : ℕ) → place < k → ¬ P k) → (k : ℕ) → ¬ P k
+  none_at_all later k h = elim (cases_lt place k) [ inl less ↦ later k less h | inr low ↦ before k low h ]
+
+module _ (table : Table) (target : List Literal) (hints : List ℤ) (place : ℕ) (old : List Literal) (reached : HasReached table target (sizes (take place hints)) old) where
+  -- where literals were reached, the hints so far are no whole chain
+  pub not_yet : ¬ IsFrontChain table target hints place
+  not_yet front =
+      let ids = sizes (take place hints) in
+      let ended : hints_end ≡ right = sym (reached.chains []) ∙ ap (chain (negations target)) (append-nil (named table ids)) ∙ front.chain in
+      cc
+
+  module _ (d : ℤ) (less : place < length hints) (stops : (clause : List Literal) → NamesClause table (get_or hints place d) clause → more ≡ count_left (left old clause)) where
+    -- and after a hint that stops them they never are one
+    pub never : (k : ℕ) → place < k → ¬ IsFrontChain table target hints k
+    never k past front =
+        let split = take_past hints place k d less past in
+        let hint = get_or hints place d in
+        let ids = sizes (take place hints) in
+        let later = sizes split.0 in
+        let are : sizes (take k hints) ≡ ids ++ nat_abs hint ∷ later = ap sizes split.1 ∙ map-append nat_abs (take place hints) (hint ∷ split.0) in
+        let plain = not_negative (take place hints) hint split.0 (sym (ap (list_any is_negative) split.1) ∙ front.plain) in
+        let live = clause_of table (nat_abs hint) (live_within table ids (nat_abs hint) later (subst (AreLive table) are front.live)) in
+        let clause : List Literal = live.0 in
+        let behind = named table later in
+        let names : named table (sizes (take k hints)) ≡ named table ids ++ clause ∷ behind =
+        ap (named table) are ∙ filter_map-append (get table) ids (nat_abs hint ∷ later) ∙ ap (λ o. named table ids ++ cons_option o behind) live.1 in
+        let stuck : not_unit ≡ right =
+        ap (λ c. go_on c (λ m. chain (m ∷ old) behind)) (stops clause (plain, live.1)) ∙ sym (reached.chains (clause ∷ behind)) ∙ ap (chain (negations target)) (sym names) ∙ front.chain in
+        cc

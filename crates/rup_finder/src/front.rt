@@ -1,7 +1,6 @@
 //! How many hints of a list it takes to a right chain.
-ghost use Rattle.std.specs.Prelude.{◌≡◌, ◌≤◌, IfOk, IfSome, OnOk, length, take};
-ghost use Rattle.cx_base.specs.Integers.{sizes};
-ghost use Rattle.rup_finder.specs.Front.{IsLiveChain, NoneNegative, Takes};
+ghost use Rattle.std.specs.Prelude.{IfOk};
+ghost use Rattle.rup_finder.specs.Front.{IsChainLength, Takes};
 
 use cx_base::Lit;
 use proof_rules::{LeftOf, LiteralSet, Live, left_of};
@@ -38,15 +37,15 @@ fn take_hint(assumed: &mut LiteralSet, live: &Live, hint: i64) -> Result<Taken, 
     }
 }
 
-/// How many of the hints are a right chain of live clauses for the target; none where no prefix of them is one without a
-/// negative hint.
+/// How many of the hints, from the first on, are a right chain of live clauses for the target: the fewest that are one. None
+/// where no prefix without a negative hint is one.
 pub fn chain_length(
     assumed: &mut LiteralSet,
     live: &Live,
     target: &[Lit],
     hints: &[i64],
 ) -> Result<Option<usize>, AllocError>
-    ensures { IfOk result (λ found. IfSome found (λ count. (count ≤ length hints.now) × NoneNegative (take count hints.now) × IsLiveChain live.now.clauses target.now (sizes (take count hints.now)))) }
+    ensures { IfOk result (IsChainLength live.now.clauses target.now hints.now) }
 {
     assumed.set_to_negations(target)?;
     for place in 0..hints.len() {

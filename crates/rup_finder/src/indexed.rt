@@ -1,7 +1,6 @@
 //! Live clauses, and chains over them.
-ghost use Rattle.std.specs.Prelude.{◌≡◌, ◌≤◌, IfOk, IfErr, IfSome, OnOk, OnErr, [], ◌∷◌, MatchOption, None, Some, length, take};
+ghost use Rattle.std.specs.Prelude.{◌≡◌, IfOk, IfErr, OnOk, OnErr, [], ◌∷◌, MatchOption, None, Some};
 ghost use Rattle.cx_semantics.specs.Chain.{IsChain};
-ghost use Rattle.cx_base.specs.Integers.{sizes};
 ghost use Rattle.cx_semantics.specs.Judging.{AllHold};
 ghost use Rattle.cx_semantics.specs.LogRules.{AreLive, HasChain, moving};
 ghost use Rattle.proof_rules.specs.Judges.{IsRefusedBy};
@@ -9,7 +8,7 @@ ghost use Rattle.proof_rules.specs.declared.live.Kind.TheVariants.{Clauses, Pari
 ghost use Rattle.proof_rules.specs.Kinds.{chosen, put_constraint, drop_constraints, move_constraints};
 ghost use Rattle.cx_semantics.specs.Tables.{is_live, named, no_tables};
 ghost use Rattle.rup_engine.specs.Finding.{Answers};
-ghost use Rattle.rup_finder.specs.Front.{IsLiveChain, NoneNegative};
+ghost use Rattle.rup_finder.specs.Front.{IsChainLength};
 
 use crate::front::chain_length;
 use crate::ready::{ask, keep_if, move_in, put_in, ready, take_out};
@@ -204,8 +203,8 @@ impl<'f> IndexedClauses<'f> {
         }
     }
 
-    /// How many of the hints are a right chain of live clauses for the clause; none where no prefix of them is one without a
-    /// negative hint.
+    /// How many of the hints, from the first on, are a right chain of live clauses for the clause: the fewest that are one. None
+    /// where no prefix without a negative hint is one.
     ///
     /// Each hint is looked up once, and none after the chain's end.
     pub fn chain_length(
@@ -214,8 +213,7 @@ impl<'f> IndexedClauses<'f> {
         hints: &[i64],
     ) -> Result<Option<usize>, AllocError>
         ensures same { self.new ≡ self.old }
-        ensures chain { IfOk result (λ found. IfSome found (λ count. (count ≤ length hints.now) × IsLiveChain self.old.clauses target.now (sizes (take count hints.now)))) }
-        ensures plain { IfOk result (λ found. IfSome found (λ count. NoneNegative (take count hints.now))) }
+        ensures length { IfOk result (IsChainLength self.old.clauses target.now hints.now) }
     {
         chain_length(&mut self.assumed, &self.live, target, hints)
     }
