@@ -133,7 +133,7 @@ either limit first second s p files due (inl e) = inr (stopped limit first secon
 either limit first second s p files due (inr e) = conclude limit first second s (status_of_ending e.0) e.1 (due e.0 e.2)
 
 -- the log is what is on the Proof port
-log_is : (name log_name log answer : Bytes) (old new : Seen) (written : Written) → new ≡ solved name (Some log_name) log answer old → new.written ≡ written → written.proof ≡ log
+pub log_is : (name log_name log answer : Bytes) (old new : Seen) (written : Written) → new ≡ solved name (Some log_name) log answer old → new.written ≡ written → written.proof ≡ log
 log_is name log_name log answer old new written done left = sym (ap (λ (w : Written). w.proof) left) ∙ ap proof_in done
 
 pub logs_elaborate : LogsElaborate

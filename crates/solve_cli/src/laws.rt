@@ -8,7 +8,7 @@ ghost use Rattle.solve_cli.specs.NoPlan.{AsksNothing, EndsAsUsage, HasAsked};
 ghost use Rattle.solve_cli.specs.TwoRuns.{IsComputed, RunsAgree, FilesDecide};
 ghost use Rattle.solve_cli.specs.Run.{Run};
 ghost use Rattle.solve_cli.specs.Seen.{Seen};
-ghost use Rattle.solve_cli.specs.WholeWay.{LogsElaborate, ProofsVerify};
+ghost use Rattle.solve_cli.specs.WholeWay.{LogsElaborate, LogsKeepHints, ProofsVerify};
 ghost use Rattle.solve_cli.specs.declared.ending.Ending.{Ending};
 ghost use Rattle.solve_cli.specs.declared.ending.Status.TheVariants as status;
 
@@ -30,9 +30,10 @@ pub fn refusals_of_formulas_are_due()
 {}
 
 /// The log of a refutation is elaborated, and its proof is verified. Each of the two commands ends with 0, unless it is cut short
-/// by a fault, by lack of memory, or since a text is over its limit.
+/// by a fault, by lack of memory, or since a text is over its limit. The proof has the log's hints.
 pub fn refutations_are_verified()
     ensures elaborated { LogsElaborate }
+    ensures hints { LogsKeepHints }
     ensures verified { ProofsVerify }
 {}
 
