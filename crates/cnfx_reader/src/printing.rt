@@ -112,20 +112,26 @@ fn put_constraint<D: Desk>(
     }
 }
 
-/// Writes the lines of the constraints from one place up to another, one by one.
+/// The places from one up to another.
+#[derive(Clone, Copy, Drop)]
+struct PlaceRange {
+    from: usize,
+    to: usize,
+}
+
+/// Writes the lines of the constraints at these places, one by one.
 fn put_each<D: Desk>(
     sheet: &mut ConstraintSheet,
     desk: &mut D,
     port: Port,
     formula: &Formula,
-    from: usize,
-    to: usize,
+    places: PlaceRange,
 ) -> Result<(), Failed>
-    requires order { from ≤ to }
-    requires high { to ≤ length formula.now.constraints }
-    ensures { PutsUpTo port formula.now.constraints from to (D.outside desk.old) result (D.outside desk.new) }
+    requires order { places.from ≤ places.to }
+    requires high { places.to ≤ length formula.now.constraints }
+    ensures { PutsUpTo port formula.now.constraints places.from places.to (D.outside desk.old) result (D.outside desk.new) }
 {
-    for place in from..to {
+    for place in places.from..places.to {
         put_constraint(sheet, desk, port, formula.item(place))?;
     }
     Ok(())
@@ -150,8 +156,9 @@ fn put_next<D: Desk>(
             Ok(to)
         }
         Err(long) => {
-            put_each(sheet, desk, port, formula, from, long + 1)?;
-            Ok(long + 1)
+            let to = long + 1;
+            put_each(sheet, desk, port, formula, PlaceRange { from, to })?;
+            Ok(to)
         }
     }
 }
