@@ -109,15 +109,14 @@ impl ParityEngine for Scratch {
             &mut self.truths,
         );
         self.matrix.reduce_outside(&self.assigned);
-        let (event, mood) = answer(
-            &self.matrix,
-            self.level,
-            &self.held,
-            &self.assigned,
-            &self.truths,
-            &mut self.slots,
-            self.mood,
-        );
+        let sight = RowSight {
+            matrix: &self.matrix,
+            level: self.level,
+            held: &self.held,
+            assigned: &self.assigned,
+            truths: &self.truths,
+        };
+        let (event, mood) = answer(sight, &mut self.slots, self.mood);
         self.mood = mood;
         event
     }
@@ -179,23 +178,32 @@ fn keep_held(held: &mut [Option<Held>], level: u32)
     }
 }
 
-/// The event that the reduced rows give, and the mood that it leaves. The row is copied.
-fn answer(
-    matrix: &Matrix,
+/// What is known where reduced rows are looked at: the level, and the values by columns, packed too.
+#[derive(Clone, Copy, Drop)]
+struct RowSight<'m> {
+    matrix: &'m Matrix,
     level: u32,
-    held: &[Option<Held>],
-    assigned: &[u64],
-    truths: &[u64],
-    slots: &mut [RowSlot],
-    mood: Mood,
-) -> (ParityEvent, Mood)
-    requires scratch { IsScratch matrix.now level held.now assigned.now truths.now slots.old mood }
+    held: &'m [Option<Held>],
+    assigned: &'m [u64],
+    truths: &'m [u64],
+}
+
+/// The event that the reduced rows give, and the mood that it leaves. The row is copied.
+fn answer(sight: RowSight<'_>, slots: &mut [RowSlot], mood: Mood) -> (ParityEvent, Mood)
+    requires scratch { IsScratch sight.matrix.now sight.level sight.held.now sight.assigned.now sight.truths.now slots.old mood }
     requires whole { mood ≢ Broken }
-    requires masks { AreMasks matrix.now.columns held.now assigned.now truths.now (length matrix.now.columns) }
-    requires reduced { (r : ℕ) → r < length matrix.now.rows → IsReducedRow matrix.now assigned.now r }
-    ensures answers { Reports (state_of matrix.now level held.now slots.old mood) result.0 (state_of matrix.now level held.now slots.new result.1) }
-    ensures scratch { IsScratch matrix.now level held.now assigned.now truths.now slots.new result.1 }
+    requires masks { AreMasks sight.matrix.now.columns sight.held.now sight.assigned.now sight.truths.now (length sight.matrix.now.columns) }
+    requires reduced { (r : ℕ) → r < length sight.matrix.now.rows → IsReducedRow sight.matrix.now sight.assigned.now r }
+    ensures answers { Reports (state_of sight.entry.matrix.now sight.entry.level sight.entry.held.now slots.old mood) result.0 (state_of sight.entry.matrix.now sight.entry.level sight.entry.held.now slots.new result.1) }
+    ensures scratch { IsScratch sight.entry.matrix.now sight.entry.level sight.entry.held.now sight.entry.assigned.now sight.entry.truths.now slots.new result.1 }
 {
+    let RowSight {
+        matrix,
+        level,
+        held,
+        assigned,
+        truths,
+    } = sight;
     match find(matrix, assigned, truths) {
         FoundRow::Nothing => (ParityEvent::Quiet, Mood::Calm),
         FoundRow::Contradiction(row) => {
