@@ -12,7 +12,7 @@ use cx_base::{Formula, Lit, Row};
 use cx_trail::Reason;
 use parity_engine::ParityEngine;
 use std::alloc::{AllocError, Global};
-use xor_reason::{ReasonOf, reason_clause, sum_of_reasons};
+use xor_reason::{ReasonOf, ReasonPair, reason_clause, sum_of_reasons};
 
 /// A row whose clause would end the log, with the literal of the trail that it implied.
 #[derive(Drop)]
@@ -143,7 +143,13 @@ pub(crate) fn going_on<P: ParityEngine>(
         return Ok(reason);
     }
     match first {
-        Some(row) => sum_of_reasons(alloc, engine, &reason, &row.reason, implied, &state.trail),
+        Some(row) => {
+            let pair = ReasonPair {
+                one: &reason,
+                other: &row.reason,
+            };
+            sum_of_reasons(alloc, engine, pair, implied, &state.trail)
+        }
         None => unreachable!(),
     }
 }

@@ -7,4 +7,4 @@ mod reason;
 mod sums;
 
 pub use reason::{ReasonOf, reason_clause};
-pub use sums::sum_of_reasons;
+pub use sums::{ReasonPair, sum_of_reasons};

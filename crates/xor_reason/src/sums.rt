@@ -84,32 +84,42 @@ fn written(alloc: Global, right: bool, numbers: &[u64]) -> Result<LitList, Alloc
     Ok(LitList::from_vec(lits))
 }
 
+/// The reasons that two rows give.
+#[derive(Clone, Copy, Drop)]
+pub struct ReasonPair<'r> {
+    pub one: &'r ReasonOf,
+    pub other: &'r ReasonOf,
+}
+
 /// The reason that the sum of two rows gives, of which the other is met: for the literal that the one implied, or, where none is given, for a conflict.
 ///
 /// `engine` is the engine that named the rows. The other has not the implied literal's variable, and some variable is in just one of them.
 pub fn sum_of_reasons<P: ParityEngine>(
     alloc: Global,
     engine: &P,
-    one: &ReasonOf,
-    other: &ReasonOf,
+    pair: ReasonPair<'_>,
     implied: Option<Lit>,
     trail: &Trail,
 ) -> Result<ReasonOf, AllocError>
-    requires one { IsReason (P.state engine.now).parities trail.now implied one.now }
-    requires other { (l : Literal) × IsReason (P.state engine.now).parities trail.now (Some l) other.now }
-    requires apart { IfSome implied (λ l. IsFalse (has_variable other.now.clause l.variable)) }
-    requires some { (v : ℕ) × IsTrue (differ (has_variable one.now.clause v) (has_variable other.now.clause v)) }
+    requires one { IsReason (P.state engine.now).parities trail.now implied pair.one.now }
+    requires other { (l : Literal) × IsReason (P.state engine.now).parities trail.now (Some l) pair.other.now }
+    requires apart { IfSome implied (λ l. IsFalse (has_variable pair.other.now.clause l.variable)) }
+    requires some { (v : ℕ) × IsTrue (differ (has_variable pair.one.now.clause v) (has_variable pair.other.now.clause v)) }
     ensures reason { IfOk result (IsReason (P.state engine.now).parities trail.now implied) }
-    ensures variables { IfOk result (λ r. HasVariablesOfSum one.now.clause other.now.clause r.clause) }
+    ensures variables { IfOk result (λ r. HasVariablesOfSum pair.entry.one.now.clause pair.entry.other.now.clause r.clause) }
 {
-    let of_one = variables_of(alloc, one.parity.as_slice())?;
-    let of_other = variables_of(alloc, other.parity.as_slice())?;
+    let of_one = variables_of(alloc, pair.one.parity.as_slice())?;
+    let of_other = variables_of(alloc, pair.other.parity.as_slice())?;
     let variables = numbers_of_sum(alloc, &of_one, &of_other)?;
-    let of_one_right = right_side(one.parity.as_slice());
-    let of_other_right = right_side(other.parity.as_slice());
+    let of_one_right = right_side(pair.one.parity.as_slice());
+    let of_other_right = right_side(pair.other.parity.as_slice());
     let right = sum_of_bits(of_one_right, of_other_right);
     let parity = written(alloc, right, &variables)?;
-    let sources = numbers_of_sum(alloc, one.sources.as_slice(), other.sources.as_slice())?;
+    let sources = numbers_of_sum(
+        alloc,
+        pair.one.sources.as_slice(),
+        pair.other.sources.as_slice(),
+    )?;
     let clause = literals_for(alloc, trail, &implied, parity.as_slice())?;
     Ok(ReasonOf {
         parity,
