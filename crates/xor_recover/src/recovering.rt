@@ -110,22 +110,28 @@ fn found_whole(alloc: Global, whole: &Whole) -> Result<FoundParity, AllocError>
     Ok(FoundParity { parity, clauses })
 }
 
+/// Clauses that start alike: those that were told one by one, and those that follow one another.
+#[derive(Clone, Copy, Drop)]
+struct Alike<'c> {
+    starts: &'c [Start],
+    wholes: &'c [Whole],
+}
+
 /// Adds the parities of clauses, put in order.
 fn find_in_order(
     alloc: Global,
     formula: &Formula,
-    run: &[Start],
-    wholes: &[Whole],
+    alike: Alike<'_>,
     room: &mut Room,
     finds: &mut Vec<FoundParity>,
 ) -> Result<(), AllocError>
-    requires starts { AllByRecursion (IsStart (clauses_of formula.now.constraints)) run.now }
-    requires wholes { AllByRecursion (IsWhole (clauses_of formula.now.constraints)) wholes.now }
-    ensures { OnOk result (AddsFound (clauses_of formula.now.constraints) (run.now ++ starts_of_all wholes.now) finds.old.items finds.new.items) }
+    requires starts { AllByRecursion (IsStart (clauses_of formula.now.constraints)) alike.starts.now }
+    requires wholes { AllByRecursion (IsWhole (clauses_of formula.now.constraints)) alike.wholes.now }
+    ensures { OnOk result (AddsFound (clauses_of formula.now.constraints) (alike.entry.starts.now ++ starts_of_all alike.entry.wholes.now) finds.old.items finds.new.items) }
 {
     // that variables are within the range, which this call tells the proof
     let _vars = formula.vars();
-    room.fill(formula, run, wholes)?;
+    room.fill(formula, alike.starts, alike.wholes)?;
     for start in 0..room.entries.len() {
         match found_at(alloc, &room.entries, start)? {
             Some(find) => finds.push(find)?,
@@ -139,26 +145,26 @@ fn find_in_order(
 fn find_among(
     alloc: Global,
     formula: &Formula,
-    run: &[Start],
-    wholes: &[Whole],
+    alike: Alike<'_>,
     room: &mut Room,
     finds: &mut Vec<FoundParity>,
 ) -> Result<(), AllocError>
-    requires starts { AllByRecursion (IsStart (clauses_of formula.now.constraints)) run.now }
-    requires wholes { AllByRecursion (IsWhole (clauses_of formula.now.constraints)) wholes.now }
-    ensures { OnOk result (AddsFound (clauses_of formula.now.constraints) (run.now ++ starts_of_all wholes.now) finds.old.items finds.new.items) }
+    requires starts { AllByRecursion (IsStart (clauses_of formula.now.constraints)) alike.starts.now }
+    requires wholes { AllByRecursion (IsWhole (clauses_of formula.now.constraints)) alike.wholes.now }
+    ensures { OnOk result (AddsFound (clauses_of formula.now.constraints) (alike.entry.starts.now ++ starts_of_all alike.entry.wholes.now) finds.old.items finds.new.items) }
 {
     // that variables are within the range, and that numbers fit, which these calls tell the proof
     let _vars = formula.vars();
     let _len = formula.clause_count();
-    if run.is_empty() && wholes.len() == 1 {
+    let Alike { starts, wholes } = alike;
+    if starts.is_empty() && wholes.len() == 1 {
         finds.push(found_whole(alloc, &wholes[0])?)?;
         return Ok(());
     }
-    if wholes.is_empty() && run.len() < 2 {
+    if wholes.is_empty() && starts.len() < 2 {
         return Ok(());
     }
-    find_in_order(alloc, formula, run, wholes, room, finds)
+    find_in_order(alloc, formula, alike, room, finds)
 }
 
 /// The parities of 2 to 6 variables that the formula has as clauses, in order of their variables, with right
@@ -182,11 +188,13 @@ pub fn recover(alloc: Global, formula: &Formula) -> Result<FoundList, AllocError
     let mut whole = 0;
     while at < starts.len() || whole < wholes.len() {
         let pair = next_pair(&starts, at, &wholes, whole);
-        let run = &starts[at..starts_end(&starts, at, pair)];
-        let alike = &wholes[whole..wholes_end(&wholes, whole, pair)];
-        find_among(alloc, formula, run, alike, &mut room, &mut finds)?;
-        at += run.len();
-        whole += alike.len();
+        let alike = Alike {
+            starts: &starts[at..starts_end(&starts, at, pair)],
+            wholes: &wholes[whole..wholes_end(&wholes, whole, pair)],
+        };
+        find_among(alloc, formula, alike, &mut room, &mut finds)?;
+        at += alike.starts.len();
+        whole += alike.wholes.len();
     }
     Ok(FoundList::from_vec(finds))
 }

@@ -9,15 +9,15 @@ use Rattle.xor_recover.proofs.recovering.find_among.Goals as goal
 
 pub found_whole-requires-clause-rising : goal.found_whole-requires-clause-rising
 found_whole-requires-clause-rising c =
-    let one : length c.args.wholes.now ≡ 1 = c.if-wholes-eq1.true in
-    (at_whole (clauses_of c.args.formula.now.constraints) c.args.wholes.now 0 _ c.index-wholes-0.result c.requires.wholes (omega arith) c.index-wholes-0.is).rises
+    let one : length c.args.alike.wholes.now ≡ 1 = c.if-wholes-eq1.true in
+    (at_whole (clauses_of c.args.formula.now.constraints) c.args.alike.wholes.now 0 _ c.index-wholes-0.result c.requires.wholes (omega arith) c.index-wholes-0.is).rises
 
 pub found_whole-requires-clause-fits : goal.found_whole-requires-clause-fits
 found_whole-requires-clause-fits c =
-    let one : length c.args.wholes.now ≡ 1 = c.if-wholes-eq1.true in
+    let one : length c.args.alike.wholes.now ≡ 1 = c.if-wholes-eq1.true in
     let C = clauses_of c.args.formula.now.constraints in
     let w = c.index-wholes-0.result in
-    let h = at_whole C c.args.wholes.now 0 _ w c.requires.wholes (omega arith) c.index-wholes-0.is in
+    let h = at_whole C c.args.alike.wholes.now 0 _ w c.requires.wholes (omega arith) c.index-wholes-0.is in
     let low = count_low w h.two h.six in
     let last = (whole_inside C w (count_of w - 1) h (omega (arith, low))).1 in
     let len = c.clause_count-len.ensures in
@@ -25,14 +25,14 @@ found_whole-requires-clause-fits c =
 
 pub returns-then-wholes-eq1 : goal.returns-then-wholes-eq1
 returns-then-wholes-eq1 c =
-    let one : length c.args.wholes.now ≡ 1 = c.if-wholes-eq1.true in
+    let one : length c.args.alike.wholes.now ≡ 1 = c.if-wholes-eq1.true in
     let C = clauses_of c.args.formula.now.constraints in
     let w = c.index-wholes-0.result in
-    let h = at_whole C c.args.wholes.now 0 _ w c.requires.wholes (omega arith) c.index-wholes-0.is in
-    whole_alone C c.args.run.now c.args.wholes.now w c.args.finds.now.items _ c.in_ok-found_whole.field-0 (eqb-true (length c.args.run.now) 0 (sym c.if-is_empty.ensures)) one c.index-wholes-0.is h c.in_ok-found_whole.ensures.parity c.in_ok-found_whole.ensures.clauses
+    let h = at_whole C c.args.alike.wholes.now 0 _ w c.requires.wholes (omega arith) c.index-wholes-0.is in
+    whole_alone C c.args.alike.starts.now c.args.alike.wholes.now w c.args.finds.now.items _ c.in_ok-found_whole.field-0 (eqb-true (length c.args.alike.starts.now) 0 (sym c.if-is_empty.ensures)) one c.index-wholes-0.is h c.in_ok-found_whole.ensures.parity c.in_ok-found_whole.ensures.clauses
     c.in_ok-push.ensures.items
 
-pub returns-then-run-lt2 : goal.returns-then-run-lt2
-returns-then-run-lt2 c =
-    clause_alone (clauses_of c.args.formula.now.constraints) c.args.run.now c.args.wholes.now c.args.finds.now.items (formula_within _ c.args.formula.now.constraints c.vars-vars.ensures.within) c.requires.starts
-    (eqb-true (length c.args.wholes.now) 0 (sym c.if-is_empty-2.ensures)) c.if-run-lt2.true
+pub returns-then-starts-lt2 : goal.returns-then-starts-lt2
+returns-then-starts-lt2 c =
+    clause_alone (clauses_of c.args.formula.now.constraints) c.args.alike.starts.now c.args.alike.wholes.now c.args.finds.now.items (formula_within _ c.args.formula.now.constraints c.vars-vars.ensures.within) c.requires.starts
+    (eqb-true (length c.args.alike.wholes.now) 0 (sym c.if-is_empty-2.ensures)) c.if-starts-lt2.true

@@ -20,9 +20,9 @@ found_at-requires-clause-proper c =
     let cs = c.args.formula.now.constraints in
     let items = c.fill.new.self.entries.items in
     let rows = map row_of items in
-    let each = all_append (IsStart (clauses_of cs)) c.args.run.now (starts_of_all c.args.wholes.now) c.requires.starts (wholes_each (clauses_of cs) c.args.wholes.now c.requires.wholes) in
+    let each = all_append (IsStart (clauses_of cs)) c.args.alike.starts.now (starts_of_all c.args.alike.wholes.now) c.requires.starts (wholes_each (clauses_of cs) c.args.alike.wholes.now c.requires.wholes) in
     subst (λ (es : List ClauseEntry). All (λ (e : ClauseEntry). IsProper (row_of e)) es) (sym c.deref.ensures.value)
-    (all_entries items (all_by_contains IsProper rows (λ x cx. rows_proper (clauses_of cs) (c.args.run.now ++ starts_of_all c.args.wholes.now) (formula_within _ cs c.vars-vars.ensures.within) each x (c.in_ok-fill.ensures.firsts.from x cx))))
+    (all_entries items (all_by_contains IsProper rows (λ x cx. rows_proper (clauses_of cs) (c.args.alike.starts.now ++ starts_of_all c.args.alike.wholes.now) (formula_within _ cs c.vars-vars.ensures.within) each x (c.in_ok-fill.ensures.firsts.from x cx))))
 
 pub loop-start-preserved : goal.loop-start-preserved
 loop-start-preserved c =
@@ -50,5 +50,5 @@ returns c =
     let long : length rows ≡ length items = length-map items row_of in
     let fewer = c.in_ok-fill.ensures.few in
     let le : length rows ≤ c.loop-start.start = omega arith in
-    let few : length rows ≤ length (c.args.run.now ++ starts_of_all c.args.wholes.now) = omega (arith, long, fewer) in
-    run_ends (clauses_of c.args.formula.now.constraints) (c.args.run.now ++ starts_of_all c.args.wholes.now) rows c.loop-start.start c.args.finds.now.items c.loop-start.finds.items c.in_ok-fill.ensures.firsts le few c.loop-start.invariant
+    let few : length rows ≤ length (c.args.alike.starts.now ++ starts_of_all c.args.alike.wholes.now) = omega (arith, long, fewer) in
+    run_ends (clauses_of c.args.formula.now.constraints) (c.args.alike.starts.now ++ starts_of_all c.args.alike.wholes.now) rows c.loop-start.start c.args.finds.now.items c.loop-start.finds.items c.in_ok-fill.ensures.firsts le few c.loop-start.invariant
