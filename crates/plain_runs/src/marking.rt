@@ -153,15 +153,26 @@ const CHANGES: [EventChange; 5] = [
     EventChange::LeaveNumberOut,
 ];
 
+/// The events of a search of the formula, which are marked this many times.
+#[derive(Clone, Copy, Drop)]
+struct MarkedLog<'e> {
+    formula: &'e Formula,
+    events: &'e [LogEvent],
+    marks: u64,
+}
+
 /// Writes the changes after which the marks do not fit.
 fn put_changed(
     alloc: Global,
     others: &mut String,
-    formula: &Formula,
-    events: &[LogEvent],
-    marks: u64,
+    log: MarkedLog<'_>,
     counts: &mut MarkedCounts,
 ) -> Result<(), AllocError> {
+    let MarkedLog {
+        formula,
+        events,
+        marks,
+    } = log;
     let Some(learned) = first_learned(events) else {
         return Ok(());
     };
@@ -211,7 +222,12 @@ fn put_searched(
     match marks_of(alloc, formula, events)? {
         Some(marks) if fits_budget(answer, marks, budget) => {
             count(counts, answer);
-            put_changed(alloc, others, formula, events, marks, counts)
+            let log = MarkedLog {
+                formula,
+                events,
+                marks,
+            };
+            put_changed(alloc, others, log, counts)
         }
         marks => writeln!(others, "{answer:?} {budget} {marks:?}"),
     }
