@@ -1,11 +1,11 @@
 -- A source of the steps of a log and a sink of the steps of a proof, in one object: what is told of it, and what a call leaves.
-use Rattle.std.specs.Prelude.{◌≡◌, ◌<◌, ◌≤◌, ◌^◌, ℕ, Bool, false, List, Option, Result, OnOk, OnErr}
+use Rattle.std.specs.Prelude.{◌≡◌, ℕ, Bool, false, List, Option, Result, OnOk, OnErr}
 use Rattle.cx_base.specs.Endings.{Ending}
 use Rattle.cx_base.specs.declared.steps.LogStep.{LogStep}
 use Rattle.cx_base.specs.declared.steps.ProofStep.{ProofStep}
 use Rattle.step_text.specs.declared.source.TextRefusal.{TextRefusal}
 use Rattle.step_text.specs.declared.sink.SinkFault.{SinkFault}
-use Rattle.step_text.specs.Sources.{Gives, PlaceRises, FaultsAs, SpentAs, StuckAs, IsTooLongOnly}
+use Rattle.step_text.specs.Sources.{Gives, IsTooLongOnly, StandsAfter, Advances}
 use Rattle.step_text.specs.Sinks.{with_next, SinkFaultsAs, HasFailedAs, OnFailed}
 
 -- what is told of each state of the object
@@ -48,17 +48,12 @@ module _ {X : Type 0} (view : EndsView X) where
     pub limit : view.passes_limit new text ≡ view.passes_limit old text
 
   -- whether the source may be asked again, what it goes on giving, and its faults
-  pub record SourceAnswers (old : X) (result : Result (Option LogStep) TextRefusal) (new : X) : Type 0 where
-    pub spent : SpentAs result (view.is_spent new)
-    pub stuck : StuckAs (view.stuck old) result (view.stuck new)
-    pub faults : FaultsAs result (view.read_faults old) (view.read_faults new)
+  abbrev pub SourceAnswers : X → Result (Option LogStep) TextRefusal → X → Type 0
+  SourceAnswers old result new = StandsAfter view.is_spent view.stuck view.read_faults old result new
 
   -- the place rises at a step, up to a bound below 2^62 that never changes
-  pub record Advances (old : X) (result : Result (Option LogStep) TextRefusal) (new : X) : Type 0 where
-    pub rises : PlaceRises result (view.place old) (view.place new)
-    pub within : view.place new ≤ view.farthest new
-    pub far : view.farthest new < 2 ^ 62
-    pub bound : view.farthest new ≡ view.farthest old
+  abbrev pub SourceAdvances : X → Result (Option LogStep) TextRefusal → X → Type 0
+  SourceAdvances old result new = Advances view.place view.farthest old result new
 
   -- the sink is as it was
   pub record SinkStays (old new : X) : Type 0 where

@@ -3,7 +3,7 @@ ghost use Rattle.std.specs.Prelude.{◌≡◌, false, ℕ, List};
 ghost use Rattle.cx_base.specs.Endings.{Ending};
 ghost use Rattle.cx_texts.specs.Printed.{HasProofText};
 ghost use Rattle.cx_base.specs.declared.steps.LogStep.{LogStep};
-ghost use Rattle.fratx_elab.specs.Ends.{EndsView, AnswersOf, SourceAnswers, Advances, SinkStays, TakesNext, SinkAnswers, SourceStays};
+ghost use Rattle.fratx_elab.specs.Ends.{EndsView, AnswersOf, SourceAnswers, SourceAdvances, SinkStays, TakesNext, SinkAnswers, SourceStays};
 
 use cx_base::{LogStep, ProofStep};
 use step_text::{Sink, SinkFault, SpareLists, StepSource, TextRefusal};
@@ -20,7 +20,7 @@ pub trait ElabEnds {
         requires { view.is_spent self.old ≡ false }
         ensures texts { (text : List ℕ) → view.may_read self.new text → AnswersOf view text self.old result self.new }
         ensures source { SourceAnswers view self.old result self.new }
-        ensures place { Advances view self.old result self.new }
+        ensures place { SourceAdvances view self.old result self.new }
         ensures sink { SinkStays view self.old self.new }
         ensures frame { view.keeps self.old self.new };
 

@@ -1,9 +1,8 @@
 //! A log that is printed event by event on a desk's Proof port.
-ghost use Rattle.std.specs.Prelude.{◌≡◌, true, false, OnOk, OnErr, IfErr};
+ghost use Rattle.std.specs.Prelude.{◌≡◌, true, false, OnOk, OnErr};
 ghost use Rattle.cx_texts.specs.Printed.{HasText};
-ghost use Rattle.step_text.specs.Sinks.{with_next, with_tidy, SinkFaultsAs, HasFailedAs, OnFailed};
-ghost use Rattle.step_text.specs.declared.sink.SinkFault.TheVariants as fault;
-ghost use Rattle.proof_text.specs.Told.{is_whole, fault_of};
+ghost use Rattle.step_text.specs.Sinks.{with_next, with_tidy, OnFailed};
+ghost use Rattle.proof_text.specs.Told.{is_whole, PrintsAs};
 ghost use Rattle.log_text.specs.Told.{events_told, TornOn, Goes};
 ghost use Rattle.log_text.specs.Lines.{lines_told, TornTidyOn, GoesByLines};
 
@@ -72,9 +71,7 @@ impl<D: Desk> Sink for DeskLog<'_, D> {
         ensures told { OnOk result (events_told (D.outside self.new.desk.now) ≡ with_next event.now (events_told (D.outside self.old.desk.now))) }
         ensures same { OnErr result (events_told (D.outside self.new.desk.now) ≡ events_told (D.outside self.old.desk.now)) }
         ensures torn { OnFailed result (TornOn event.now (D.outside self.new.desk.now)) }
-        ensures faults { SinkFaultsAs result (fault_of self.old.failed) (fault_of self.new.failed) }
-        ensures failed { HasFailedAs result self.old.failed self.new.failed }
-        ensures no_memory { IfErr result (λ e. e ≡ fault.Failed) }
+        ensures answers { PrintsAs result self.old.failed self.new.failed }
         ensures frame { (self.new.desk.ghost_name ≡ self.old.desk.ghost_name) × Goes self.old.failed (D.outside self.old.desk.now) self.new.failed (D.outside self.new.desk.now) }
     {
         self.failed = true;
@@ -94,9 +91,7 @@ impl<D: Desk> Sink for DeskLog<'_, D> {
         ensures told { OnOk result (lines_told (D.outside self.new.desk.now) ≡ with_tidy restart (lines_told (D.outside self.old.desk.now))) }
         ensures untold { OnErr result (lines_told (D.outside self.new.desk.now) ≡ lines_told (D.outside self.old.desk.now)) }
         ensures torn { OnFailed result (TornTidyOn restart (D.outside self.new.desk.now)) }
-        ensures faults { SinkFaultsAs result (fault_of self.old.failed) (fault_of self.new.failed) }
-        ensures failed { HasFailedAs result self.old.failed self.new.failed }
-        ensures no_memory { IfErr result (λ e. e ≡ fault.Failed) }
+        ensures answers { PrintsAs result self.old.failed self.new.failed }
         ensures frame { (self.new.desk.ghost_name ≡ self.old.desk.ghost_name) × GoesByLines self.old.failed (D.outside self.old.desk.now) self.new.failed (D.outside self.new.desk.now) }
     {
         self.failed = true;

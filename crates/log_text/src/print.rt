@@ -12,7 +12,7 @@ ghost use Rattle.step_text.specs.Spaced.{spaced};
 use crate::list_log::ListLog;
 use cx_base::{IdMove, LogEvent, LogStep};
 use cx_desk::{Desk, Failed, Port, put_all};
-use step_text::pieces::{put_head, put_id, put_ids, put_integers, put_moves};
+use step_text::pieces::{LineHead, put_head, put_id, put_ids, put_integers, put_moves};
 
 /// An id and literals after a text, as the end of a line.
 fn put_plain<D: Desk>(
@@ -24,51 +24,50 @@ fn put_plain<D: Desk>(
 ) -> Result<(), Failed>
     ensures { PutsAll port (before.now ++ printed_line (flat_map spelled (id name ∷ integers literals.now ∷ []))) (D.outside desk.old) result (D.outside desk.new) }
 {
-    put_head(desk, port, before, name, literals, b"\n")
+    let head = LineHead {
+        before,
+        id: name,
+        literals,
+    };
+    put_head(desk, port, head, b"\n")
 }
 
-/// An id, literals and hints after a text, as the end of a line.
+/// A head and hints, as a whole line.
 fn put_with_hints<D: Desk>(
     desk: &mut D,
     port: Port,
-    before: &[u8],
-    name: u64,
-    literals: &[i64],
+    head: LineHead<'_>,
     hints: &[i64],
 ) -> Result<(), Failed>
-    ensures { PutsAll port (before.now ++ printed_line (flat_map spelled (id name ∷ integers literals.now ∷ mark 108 ∷ integers hints.now ∷ []))) (D.outside desk.old) result (D.outside desk.new) }
+    ensures { PutsAll port (head.entry.before.now ++ printed_line (flat_map spelled (id head.entry.id ∷ integers head.entry.literals.now ∷ mark 108 ∷ integers hints.now ∷ []))) (D.outside desk.old) result (D.outside desk.new) }
 {
-    put_head(desk, port, before, name, literals, b" l")?;
+    put_head(desk, port, head, b" l")?;
     put_integers(desk, port, hints, b"\n")
 }
 
-/// An id, a parity's literals and the ids of sources after a text, as the end of a line.
+/// A parity's head and the ids of sources, as a whole line.
 fn put_with_sources<D: Desk>(
     desk: &mut D,
     port: Port,
-    before: &[u8],
-    name: u64,
-    parity: &[i64],
+    head: LineHead<'_>,
     sources: &[u64],
 ) -> Result<(), Failed>
-    ensures { PutsAll port (before.now ++ printed_line (flat_map spelled (id name ∷ integers parity.now ∷ mark 108 ∷ ids sources.now ∷ []))) (D.outside desk.old) result (D.outside desk.new) }
+    ensures { PutsAll port (head.entry.before.now ++ printed_line (flat_map spelled (id head.entry.id ∷ integers head.entry.literals.now ∷ mark 108 ∷ ids sources.now ∷ []))) (D.outside desk.old) result (D.outside desk.new) }
 {
-    put_head(desk, port, before, name, parity, b" l")?;
+    put_head(desk, port, head, b" l")?;
     put_ids(desk, port, sources)
 }
 
-/// An id, literals and the id of one source after a text, as the end of a line.
+/// A head and the id of one source, as a whole line.
 fn put_with_source<D: Desk>(
     desk: &mut D,
     port: Port,
-    before: &[u8],
-    name: u64,
-    literals: &[i64],
+    head: LineHead<'_>,
     source: u64,
 ) -> Result<(), Failed>
-    ensures { PutsAll port (before.now ++ printed_line (flat_map spelled (id name ∷ integers literals.now ∷ mark 108 ∷ id source ∷ end ∷ []))) (D.outside desk.old) result (D.outside desk.new) }
+    ensures { PutsAll port (head.entry.before.now ++ printed_line (flat_map spelled (id head.entry.id ∷ integers head.entry.literals.now ∷ mark 108 ∷ id source ∷ end ∷ []))) (D.outside desk.old) result (D.outside desk.new) }
 {
-    put_head(desk, port, before, name, literals, b" l")?;
+    put_head(desk, port, head, b" l")?;
     put_id(desk, port, b" ", source, b" 0\n")
 }
 
@@ -111,30 +110,20 @@ pub fn put_log_step<D: Desk>(desk: &mut D, port: Port, step: &LogStep) -> Result
         LogStep::OriginalParity(id, lits) => put_plain(desk, port, b"o x ", *id, lits.as_slice()),
         LogStep::Clause(id, lits) => put_plain(desk, port, b"a ", *id, lits.as_slice()),
         LogStep::ClauseWithHints(id, lits, hints) => {
-            put_with_hints(desk, port, b"a ", *id, lits.as_slice(), hints.as_slice())
+            let head = LineHead::new(b"a ", *id, lits.as_slice());
+            put_with_hints(desk, port, head, hints.as_slice())
         }
         LogStep::Parity(id, lits, sources) => {
-            put_with_sources(
-                desk,
-                port,
-                b"a x ",
-                *id,
-                lits.as_slice(),
-                sources.as_slice(),
-            )
+            let head = LineHead::new(b"a x ", *id, lits.as_slice());
+            put_with_sources(desk, port, head, sources.as_slice())
         }
         LogStep::ClauseOfParity(id, lits, source) => {
-            put_with_source(desk, port, b"i ", *id, lits.as_slice(), *source)
+            let head = LineHead::new(b"i ", *id, lits.as_slice());
+            put_with_source(desk, port, head, *source)
         }
         LogStep::ParityOfClauses(id, lits, sources) => {
-            put_with_sources(
-                desk,
-                port,
-                b"i x ",
-                *id,
-                lits.as_slice(),
-                sources.as_slice(),
-            )
+            let head = LineHead::new(b"i x ", *id, lits.as_slice());
+            put_with_sources(desk, port, head, sources.as_slice())
         }
         LogStep::Delete(id, lits) => put_plain(desk, port, b"d ", *id, lits.as_slice()),
         LogStep::DeleteParity(id, lits) => put_plain(desk, port, b"d x ", *id, lits.as_slice()),

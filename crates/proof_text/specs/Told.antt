@@ -1,10 +1,13 @@
 -- The steps that a port was given, and what a sink that prints on it does to the outside.
-use Rattle.std.specs.Prelude.{◌≡◌, ◌==◌, ◌<◌, ℕ, Bool, true, false, cond, List, [], ◌∷◌, ◌++◌, flat_map, length, take, Option, Some}
+use Rattle.std.specs.Prelude.{◌≡◌, ◌==◌, ◌<◌, ℕ, Bool, true, false, cond, List, [], ◌∷◌, ◌++◌, flat_map, length, take, Option, Some, Result, IfErr}
 use Rattle.std.specs.List.{AllByRecursion}
 use Rattle.cx_desk.specs.declared.desk.Port.TheVariants.{Proof}
 use Rattle.cx_desk.specs.Outside.{Bytes, Outside}
 use Rattle.cx_desk.specs.Calls.{gained, WriteFaulted}
 use Rattle.cx_base.specs.declared.steps.ProofStep.{ProofStep}
+use Rattle.step_text.specs.Sinks.{SinkFaultsAs, HasFailedAs}
+use Rattle.step_text.specs.declared.sink.SinkFault.{SinkFault}
+use Rattle.step_text.specs.declared.sink.SinkFault.TheVariants as fault
 use Rattle.cx_texts.specs.Tokens.{tokens}
 use Rattle.cx_texts.specs.Words.{placed_words}
 use Rattle.cx_texts.specs.Grammar.{spelling}
@@ -74,3 +77,14 @@ Goes true old true new = new ≡ old
 Goes true old false new = ⊥
 Goes false old false new = Prints old new
 Goes false old true new = Tears old new
+
+-- what a sink that prints answers, by whether it failed before and after: its faults, and that it never runs out of memory
+pub record PrintsAs {T : Type 0} (result : Result T SinkFault) (before now : Bool) : Type 0 where
+  pub faults : SinkFaultsAs result (fault_of before) (fault_of now)
+  pub failed : HasFailedAs result before now
+  pub no_memory : IfErr result (λ e. e ≡ fault.Failed)
+
+-- what it leaves of the port, which has whole lines as long as the sink did not fail
+pub record LeavesPort (failed : Bool) (old : Outside) (failed_now : Bool) (new : Outside) : Type 0 where
+  pub goes : Goes failed old failed_now new
+  pub whole : failed_now ≡ false → is_whole new ≡ true

@@ -1,11 +1,10 @@
 //! A proof that is printed step by step on a desk's proof port.
-ghost use Rattle.std.specs.Prelude.{◌≡◌, true, false, List, Option, None, IsOk, OnOk, OnErr, IfErr};
+ghost use Rattle.std.specs.Prelude.{◌≡◌, true, false, List, Option, None, IsOk, OnOk, OnErr};
 ghost use Rattle.cx_base.specs.Lines.{Line};
 ghost use Rattle.cx_base.specs.declared.steps.ProofStep.{ProofStep};
 ghost use Rattle.cx_texts.specs.Printed.{HasProofText};
-ghost use Rattle.step_text.specs.Sinks.{with_next, with_tidy, SinkFaultsAs, HasFailedAs, OnFailed};
-ghost use Rattle.step_text.specs.declared.sink.SinkFault.TheVariants as fault;
-ghost use Rattle.proof_text.specs.Told.{steps_told, is_whole, fault_of, TornOn, Goes};
+ghost use Rattle.step_text.specs.Sinks.{with_next, with_tidy, OnFailed};
+ghost use Rattle.proof_text.specs.Told.{steps_told, is_whole, TornOn, Goes, PrintsAs, LeavesPort};
 
 use crate::print::put_proof_step;
 use cx_base::ProofStep;
@@ -28,11 +27,8 @@ pub fn put_step<D: Desk>(
     ensures told { OnOk result (steps_told (D.outside desk.new) ≡ with_next step.now (steps_told (D.outside desk.old))) }
     ensures same { OnErr result (steps_told (D.outside desk.new) ≡ steps_told (D.outside desk.old)) }
     ensures torn { OnFailed result (TornOn step.now (D.outside desk.new)) }
-    ensures faults { SinkFaultsAs result (fault_of failed.old) (fault_of failed.new) }
-    ensures failed { HasFailedAs result failed.old failed.new }
-    ensures no_memory { IfErr result (λ e. e ≡ fault.Failed) }
-    ensures goes { Goes failed.old (D.outside desk.old) failed.new (D.outside desk.new) }
-    ensures whole { failed.new ≡ false → is_whole (D.outside desk.new) ≡ true }
+    ensures answers { PrintsAs result failed.old failed.new }
+    ensures port { LeavesPort failed.old (D.outside desk.old) failed.new (D.outside desk.new) }
 {
     match put_proof_step(sheet, desk, Port::Proof, step) {
         Ok(()) => Ok(()),
@@ -103,9 +99,7 @@ impl<D: Desk> Sink for DeskProof<'_, D> {
         ensures told { OnOk result (steps_told (D.outside self.new.desk.now) ≡ with_next step.now (steps_told (D.outside self.old.desk.now))) }
         ensures same { OnErr result (steps_told (D.outside self.new.desk.now) ≡ steps_told (D.outside self.old.desk.now)) }
         ensures torn { OnFailed result (TornOn step.now (D.outside self.new.desk.now)) }
-        ensures faults { SinkFaultsAs result (fault_of self.old.failed) (fault_of self.new.failed) }
-        ensures failed { HasFailedAs result self.old.failed self.new.failed }
-        ensures no_memory { IfErr result (λ e. e ≡ fault.Failed) }
+        ensures answers { PrintsAs result self.old.failed self.new.failed }
         ensures frame { (self.new.desk.ghost_name ≡ self.old.desk.ghost_name) × Goes self.old.failed (D.outside self.old.desk.now) self.new.failed (D.outside self.new.desk.now) }
     {
         put_step(&mut self.sheet, self.desk, &mut self.failed, step)
@@ -119,8 +113,7 @@ impl<D: Desk> Sink for DeskProof<'_, D> {
         ensures told { OnOk result (None ≡ with_tidy {I = ProofStep} _restart None) }
         ensures untold { OnErr result (◌≡◌ {A = Option (List (Line ProofStep))} None None) }
         ensures torn { OnFailed result ⊥ }
-        ensures faults { SinkFaultsAs result (fault_of self.old.failed) (fault_of self.new.failed) }
-        ensures failed { HasFailedAs result self.old.failed self.new.failed }
+        ensures answers { PrintsAs result self.old.failed self.new.failed }
         ensures frame { (self.new.desk.ghost_name ≡ self.old.desk.ghost_name) × Goes self.old.failed (D.outside self.old.desk.now) self.new.failed (D.outside self.new.desk.now) }
     {
         Ok(())

@@ -9,21 +9,19 @@ ghost use Rattle.proof_text.specs.Borrowed.{step_of};
 use crate::step_ref::StepRef;
 use cx_base::ProofStep;
 use cx_desk::{Desk, Failed, Port, put_all};
-use step_text::pieces::{self, LineSheet, put_deletion, put_id, put_ids, put_line};
+use step_text::pieces::{self, LineHead, LineSheet, put_deletion, put_id, put_ids, put_line};
 
-/// An id, literals and hints after a text, as the end of a line.
+/// A head and hints, as a whole line.
 fn put_hinted<D: Desk>(
     sheet: &mut LineSheet,
     desk: &mut D,
     port: Port,
-    before: &[u8],
-    name: u64,
-    literals: &[i64],
+    head: LineHead<'_>,
     hints: &[i64],
 ) -> Result<(), Failed>
-    ensures { PutsAll port (before.now ++ printed_line (flat_map spelled (id name ∷ integers literals.now ∷ integers hints.now ∷ []))) (D.outside desk.old) result (D.outside desk.new) }
+    ensures { PutsAll port (head.entry.before.now ++ printed_line (flat_map spelled (id head.entry.id ∷ integers head.entry.literals.now ∷ integers hints.now ∷ []))) (D.outside desk.old) result (D.outside desk.new) }
 {
-    put_line(sheet, desk, port, before, name, literals, hints)
+    put_line(sheet, desk, port, head, hints)
 }
 
 /// A deletion of clauses.
@@ -68,18 +66,22 @@ pub fn put_step_ref<D: Desk>(
 {
     match step {
         StepRef::Clause(id, literals, hints) => {
-            put_hinted(sheet, desk, port, b"", id, literals, hints)
+            let head = LineHead::new(b"", id, literals);
+            put_hinted(sheet, desk, port, head, hints)
         }
         StepRef::DeleteClauses(id, names) => put_clause_deletion(desk, port, id, names),
         StepRef::Parity(id, literals, hints) => {
-            put_hinted(sheet, desk, port, b"x ", id, literals, hints)
+            let head = LineHead::new(b"x ", id, literals);
+            put_hinted(sheet, desk, port, head, hints)
         }
         StepRef::DeleteParities(names) => put_parity_deletion(desk, port, names),
         StepRef::ClauseOfParity(id, literals, hint) => {
-            put_hinted(sheet, desk, port, b"i ", id, literals, &[hint])
+            let head = LineHead::new(b"i ", id, literals);
+            put_hinted(sheet, desk, port, head, &[hint])
         }
         StepRef::ParityOfClauses(id, literals, hints) => {
-            put_hinted(sheet, desk, port, b"i x ", id, literals, hints)
+            let head = LineHead::new(b"i x ", id, literals);
+            put_hinted(sheet, desk, port, head, hints)
         }
     }
 }

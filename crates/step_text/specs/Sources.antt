@@ -1,5 +1,5 @@
 -- What a source of steps answers.
-use Rattle.std.specs.Prelude.{◌≡◌, ◌<◌, ◌≤◌, ℕ, Bool, true, false, List, [], ◌∷◌, Option, Some, None, Result, Ok, Err, ⊤}
+use Rattle.std.specs.Prelude.{◌≡◌, ◌<◌, ◌≤◌, ◌^◌, ℕ, Bool, true, false, List, [], ◌∷◌, Option, Some, None, Result, Ok, Err, ⊤}
 use Rattle.cx_base.specs.Counts.{Rose}
 use Rattle.cx_base.specs.Endings.{Ending, finished, bad_token, too_big, unterminated}
 use Rattle.step_text.specs.declared.source.TextRefusal.{TextRefusal}
@@ -82,3 +82,16 @@ abbrev pub PlaceRises : {S : Type 0} → Result (Option S) TextRefusal → ℕ �
 PlaceRises (Ok (Some step)) before now = before < now
 PlaceRises (Ok None) before now = before ≤ now
 PlaceRises (Err refusal) before now = before ≤ now
+
+-- whether the source may be asked again, what it goes on giving, and its faults
+pub record StandsAfter {X T : Type 0} (is_spent : X → Bool) (stuck_on : X → Option TextRefusal) (faults_of : X → ℕ) (old : X) (result : Result T TextRefusal) (new : X) : Type 0 where
+  pub spent : SpentAs result (is_spent new)
+  pub stuck : StuckAs (stuck_on old) result (stuck_on new)
+  pub faults : FaultsAs result (faults_of old) (faults_of new)
+
+-- the place rises at a step, up to a bound below 2^62 that never changes
+pub record Advances {X S : Type 0} (place farthest : X → ℕ) (old : X) (result : Result (Option S) TextRefusal) (new : X) : Type 0 where
+  pub rises : PlaceRises result (place old) (place new)
+  pub within : place new ≤ farthest new
+  pub far : farthest new < 2 ^ 62
+  pub bound : farthest new ≡ farthest old

@@ -146,19 +146,42 @@ pub fn put_parity_deletion<D: Desk>(desk: &mut D, port: Port, deleted: u64) -> R
     put_all(desk, port, &sheet[begin..])
 }
 
-/// An id after a text, its literals, and a text: the head of a step's line.
+/// The head of a step's line: a text, an id and literals.
+#[derive(Clone, Copy, Drop)]
+pub struct LineHead<'l> {
+    /// What comes before the id.
+    pub before: &'l [u8],
+    pub id: u64,
+    pub literals: &'l [i64],
+}
+
+impl<'l> LineHead<'l> {
+    /// The head with these.
+    #[inline(always)]
+    pub fn new(before: &'l [u8], id: u64, literals: &'l [i64]) -> LineHead<'l>
+        ensures before { result.before.now ≡ before.now }
+        ensures id { result.id ≡ id }
+        ensures literals { result.literals.now ≡ literals.now }
+    {
+        LineHead {
+            before,
+            id,
+            literals,
+        }
+    }
+}
+
+/// The head of a step's line, and a text after it.
 pub fn put_head<D: Desk>(
     desk: &mut D,
     port: Port,
-    before: &[u8],
-    name: u64,
-    literals: &[i64],
+    head: LineHead<'_>,
     after: &[u8],
 ) -> Result<(), Failed>
-    ensures { PutsAll port (before.now ++ (decimal name ++ (spaced (spelled (integers literals.now)) ++ after.now))) (D.outside desk.old) result (D.outside desk.new) }
+    ensures { PutsAll port (head.entry.before.now ++ (decimal head.entry.id ++ (spaced (spelled (integers head.entry.literals.now)) ++ after.now))) (D.outside desk.old) result (D.outside desk.new) }
 {
-    put_id(desk, port, before, name, b"")?;
-    put_integers(desk, port, literals, after)
+    put_id(desk, port, head.before, head.id, b"")?;
+    put_integers(desk, port, head.literals, after)
 }
 
 /// The most integers of a line that is laid out whole.
@@ -181,40 +204,36 @@ impl LineSheet {
     }
 }
 
-/// An id after a text and two lists of few integers together, as a whole line, in one piece.
+/// A head and hints, few integers together, as a whole line, in one piece.
 fn put_whole_line<D: Desk>(
     sheet: &mut LineSheet,
     desk: &mut D,
     port: Port,
-    before: &[u8],
-    name: u64,
-    literals: &[i64],
+    head: LineHead<'_>,
     hints: &[i64],
 ) -> Result<(), Failed>
-    requires few { length literals.now + length hints.now ≤ MANY }
-    ensures { PutsAll port (before.now ++ (decimal name ++ (spaced (spelled (integers literals.now)) ++ (spaced (spelled (integers hints.now)) ++ 10 ∷ [])))) (D.outside desk.old) result (D.outside desk.new) }
+    requires few { length head.literals.now + length hints.now ≤ MANY }
+    ensures { PutsAll port (head.entry.before.now ++ (decimal head.entry.id ++ (spaced (spelled (integers head.entry.literals.now)) ++ (spaced (spelled (integers hints.now)) ++ 10 ∷ [])))) (D.outside desk.old) result (D.outside desk.new) }
 {
     let sheet = &mut sheet.bytes[..];
-    let begin = lay_out_line(name, literals, hints, sheet);
-    put_all(desk, port, before)?;
+    let begin = lay_out_line(head.id, head.literals, hints, sheet);
+    put_all(desk, port, head.before)?;
     put_all(desk, port, &sheet[begin..])
 }
 
-/// An id after a text and two lists, each with the zero that ends it, as a whole line.
+/// A head and hints, each list with the zero that ends it, as a whole line.
 pub fn put_line<D: Desk>(
     sheet: &mut LineSheet,
     desk: &mut D,
     port: Port,
-    before: &[u8],
-    name: u64,
-    literals: &[i64],
+    head: LineHead<'_>,
     hints: &[i64],
 ) -> Result<(), Failed>
-    ensures { PutsAll port (before.now ++ (decimal name ++ (spaced (spelled (integers literals.now)) ++ (spaced (spelled (integers hints.now)) ++ 10 ∷ [])))) (D.outside desk.old) result (D.outside desk.new) }
+    ensures { PutsAll port (head.entry.before.now ++ (decimal head.entry.id ++ (spaced (spelled (integers head.entry.literals.now)) ++ (spaced (spelled (integers hints.now)) ++ 10 ∷ [])))) (D.outside desk.old) result (D.outside desk.new) }
 {
-    if literals.len().saturating_add(hints.len()) <= MANY {
-        return put_whole_line(sheet, desk, port, before, name, literals, hints);
+    if head.literals.len().saturating_add(hints.len()) <= MANY {
+        return put_whole_line(sheet, desk, port, head, hints);
     }
-    put_head(desk, port, before, name, literals, b"")?;
+    put_head(desk, port, head, b"")?;
     put_integers(desk, port, hints, b"\n")
 }

@@ -6,10 +6,10 @@ ghost use Rattle.cx_desk.specs.Outside.{Bytes, Outside, started_in};
 ghost use Rattle.cx_desk.specs.SlotBytes.{taken_by, to_read};
 ghost use Rattle.cx_texts.specs.declared.line_state.LineState.TheVariants.{Start, Kept};
 ghost use Rattle.step_text.specs.Found.{IsFound};
-ghost use Rattle.step_text.specs.Slots.{CountsTaken, DrainsRest, IsPossible, SlotKept, ReadsOn, ReadingFails, Took};
-ghost use Rattle.step_text.specs.Sources.{Gives, SpentAs, StuckAs, PlaceRises};
-ghost use Rattle.step_text.specs.Texts.{is_spent_by, stuck_by};
-ghost use Rattle.step_text.specs.SlotAnswers.{PairLeaves, Narrows, IsAnswer};
+ghost use Rattle.step_text.specs.Slots.{DrainsRest, IsPossible, ReadsOn, ReadingFails};
+ghost use Rattle.step_text.specs.Sources.{PlaceRises};
+ghost use Rattle.step_text.specs.Texts.{is_spent_by};
+ghost use Rattle.step_text.specs.SlotAnswers.{IsAnswer, SaysOf, RefusesAfter, ReadsSlot, IsBounded};
 
 use crate::ahead::TokensAhead;
 use crate::grammar::StepGrammar;
@@ -257,17 +257,11 @@ where
     ) -> Result<Option<G::Step>, TextRefusal>
         requires started { started_in self.old.bytes.slot (D.outside desk.old).started ≡ true }
         requires fresh { is_spent_by self.old.refused ≡ false }
-        ensures step { (text : Bytes) → IsPossible self.new.bytes (D.outside desk.new) text → Gives (PairLeaves G.steps text) (self.old, D.outside desk.old) result (self.new, D.outside desk.new) }
-        ensures spent { SpentAs result (is_spent_by self.new.refused) }
-        ensures stuck { StuckAs (stuck_by self.old.refused) result (stuck_by self.new.refused) }
-        ensures narrows { (text : Bytes) → IsPossible self.new.bytes (D.outside desk.new) text → Narrows self.old.bytes (D.outside desk.old) result self.new.bytes (D.outside desk.new) text }
+        ensures texts { (text : Bytes) → IsPossible self.new.bytes (D.outside desk.new) text → SaysOf G.steps text self.old (D.outside desk.old) result self.new (D.outside desk.new) }
+        ensures refuses { RefusesAfter self.old.refused result self.new.refused }
         ensures rises { PlaceRises result self.old.bytes.place self.new.bytes.place }
-        ensures kept { SlotKept self.old.bytes (D.outside desk.old) self.new.bytes (D.outside desk.new) }
-        ensures took { Took self.old.bytes.slot result (D.outside desk.old) (D.outside desk.new) }
-        ensures counted { CountsTaken self.old.bytes result (D.outside desk.old) self.new.bytes (D.outside desk.new) }
-        ensures past { taken_by self.new.bytes ≤ self.new.bytes.limit + 1 }
-        ensures within { self.new.bytes.place ≤ self.new.bytes.limit }
-        ensures few { self.new.bytes.limit ≤ 4294967295 }
+        ensures reads { ReadsSlot self.old.bytes (D.outside desk.old) result self.new.bytes (D.outside desk.new) }
+        ensures bounded { IsBounded self.new.bytes }
     {
         if let Some(refusal) = self.refused {
             return Err(refusal);

@@ -1,9 +1,9 @@
 //! Where steps come from, one after another.
-ghost use Rattle.std.specs.Prelude.{◌≡◌, ◌<◌, ◌≤◌, ◌^◌, ℕ, Bool, true, false, List, Option};
+ghost use Rattle.std.specs.Prelude.{◌≡◌, ℕ, Bool, false, List, Option};
 ghost use Rattle.cx_base.specs.Endings.{Ending};
 ghost use Rattle.step_text.specs.declared.source.TextRefusal.{TextRefusal};
 ghost use Rattle.step_text.specs.ReadRefusals.{refusal_of_read};
-ghost use Rattle.step_text.specs.Sources.{Gives, PlaceRises, FaultsAs, SpentAs, StuckAs, IsTooLongOnly};
+ghost use Rattle.step_text.specs.Sources.{Gives, IsTooLongOnly, StandsAfter, Advances};
 
 use crate::spare::SpareLists;
 use cx_desk::ReadErr;
@@ -82,15 +82,10 @@ pub trait StepSource {
         requires { is_spent self.old ≡ false }
         ensures step { (text : List ℕ) → may_read self.new text → Gives (λ a. leaves a text) self.old result self.new }
         ensures narrows { (text : List ℕ) → may_read self.new text → may_read self.old text }
-        ensures spent { SpentAs result (is_spent self.new) }
-        ensures stuck { StuckAs (stuck self.old) result (stuck self.new) }
-        ensures faults { FaultsAs result (faults self.old) (faults self.new) }
         ensures long { (text : List ℕ) → may_read self.new text → IsTooLongOnly (passes_limit self.old text) result }
         ensures limit { (text : List ℕ) → may_read self.new text → passes_limit self.new text ≡ passes_limit self.old text }
-        ensures rises { PlaceRises result (place_of self.old) (place_of self.new) }
-        ensures within { place_of self.new ≤ farthest self.new }
-        ensures far { farthest self.new < 2 ^ 62 }
-        ensures bound { farthest self.new ≡ farthest self.old }
+        ensures stands { StandsAfter is_spent stuck faults self.old result self.new }
+        ensures place { Advances place_of farthest self.old result self.new }
         ensures frame { keeps self.old self.new };
 
     /// How far the source has come: it rises at each step.

@@ -6,7 +6,7 @@ use Rattle.cx_base.specs.declared.steps.ProofStep.{ProofStep}
 use Rattle.cx_semantics.specs.declared.cause.Cause.{Cause}
 use Rattle.cx_semantics.specs.declared.cause.Cause.TheVariants as causes
 use Rattle.cx_base.specs.Endings.{Ending, bad_token, too_big, unterminated}
-use Rattle.step_text.specs.Sources.{GivesNone, FaultsAs, StuckAs}
+use Rattle.step_text.specs.Sources.{GivesNone, FaultsAs, StuckAs, IsTooLongOnly}
 use Rattle.step_text.specs.declared.source.TextRefusal.{TextRefusal}
 use Rattle.step_text.specs.declared.source.TextRefusal.TheVariants as text
 use Rattle.cx_semantics.specs.Tables.{Tables, first_tables}
@@ -178,6 +178,15 @@ text_stuck T None now text.TooLong k e = e
 text_stuck T (Some r) now text.TooLong k e = cc (e.0, e.1)
 text_stuck T before now text.Memory k e = tt
 text_stuck T before now text.Failed k e = tt
+
+pub text_has_cause : (S : Type 0) (passes : Option Bool) (before now : ℕ) (why : TextRefusal) (k : ℕ) → IsTooLongOnly {S = S} passes (Err why) → FaultsAs (unread why) before now
+    → IfErr (text_refused why k) (HasCause passes before now)
+text_has_cause S passes before now (text.BadToken place) k only e = tt
+text_has_cause S passes before now (text.Unterminated place) k only e = tt
+text_has_cause S passes before now (text.TooBig place) k only e = tt
+text_has_cause S passes before now text.TooLong k only e = only
+text_has_cause S passes before now text.Memory k only e = tt
+text_has_cause S passes before now text.Failed k only e = e
 
 -- ---- an answer that is an error only where memory runs out
 

@@ -1,5 +1,5 @@
 -- What the checker answers.
-use Rattle.std.specs.Prelude.{◌≡◌, ◌<◌, ◌^◌, ℕ, ℤ, Bool, true, false, ◌&&◌, [], ◌∷◌, List, length, ◌++◌, ◌+◌, Option, Some, None, Result, Ok, Err, IsFalse, ⊤}
+use Rattle.std.specs.Prelude.{◌≡◌, ◌<◌, ◌^◌, ℕ, ℤ, Bool, true, false, ◌&&◌, [], ◌∷◌, List, length, ◌++◌, ◌+◌, Option, Some, None, Result, Ok, Err, IfErr, IsFalse, ⊤}
 use Rattle.cx_base.specs.Problem.{Problem, Unmet}
 use Rattle.cx_base.specs.Assumptions.{is_ending, clashes}
 use Rattle.cx_base.specs.declared.steps.ProofStep.{ProofStep}
@@ -57,6 +57,28 @@ ReadsStand (Ok verdict) before now = now ≡ before
 ReadsStand (Err Memory) before now = now ≡ before
 ReadsStand (Err TooLong) before now = now ≡ before
 ReadsStand (Err Read) before now = ⊤
+
+-- A source is told of by the texts that it may be reading, whether a text passes its limit, the refusal that it goes on giving, its faults, and what a
+-- call keeps.
+module _ {X : Type 0} (may_read : X → List ℕ → Type 0) (passes_limit : X → List ℕ → Option Bool) (stuck : X → Option TextRefusal) (faults : X → ℕ) (keeps : X → X → Type 0) where
+  -- what holds of it whatever is answered
+  pub record LeavesSource {T : Type 0} (old : X) (result : Result T Fault) (new : X) : Type 0 where
+    -- its text may have been each one that it may be now
+    pub narrows : (text : List ℕ) → may_read new text → may_read old text
+    pub cause : (text : List ℕ) → may_read new text → IfErr result (HasCause (passes_limit old text) (faults old) (faults new))
+    pub long : IfErr result (IsTooLongBy (stuck new))
+    pub reads : ReadsStand result (faults old) (faults new)
+    pub frame : keeps old new
+
+-- its next step can be taken
+pub record CanGoOn {X : Type 0} (is_spent : X → Bool) (place : X → ℕ) (old new : X) : Type 0 where
+  pub fresh : is_spent new ≡ false
+  pub rises : place old < place new
+
+-- each text passes its limit or does not, as before, and no place is too far
+pub record KeepsLimits {X : Type 0} (may_read : X → List ℕ → Type 0) (passes_limit : X → List ℕ → Option Bool) (place : X → ℕ) (old new : X) : Type 0 where
+  pub far : place new < 2 ^ 62
+  pub limit : (text : List ℕ) → may_read new text → passes_limit new text ≡ passes_limit old text
 
 -- what is answered where no step comes: a text that does not fit is refused at this number, the rest is a fault
 abbrev pub text_refused : TextRefusal → ℕ → Result (Option Verdict) Fault

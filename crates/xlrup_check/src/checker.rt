@@ -1,6 +1,6 @@
 //! The judgement of a proof, step by step.
 ghost use Rattle.std.specs.Prelude.{◌≡◌, ◌<◌, ◌≤◌, ◌^◌, ℕ, false, None, [], List, Ok, IfOk, IfErr, OnOk};
-ghost use Rattle.xlrup_check.specs.Verdicts.{IsJudgedBy, IsSound, HasCause, IsTooLongBy, ReadsStand, RecordsAll, Tells, Kept, Goes, text_refused, what_follows_of};
+ghost use Rattle.xlrup_check.specs.Verdicts.{IsJudgedBy, IsSound, HasCause, IsTooLongBy, ReadsStand, LeavesSource, CanGoOn, KeepsLimits, RecordsAll, Tells, Kept, Goes, text_refused, what_follows_of};
 ghost use Rattle.xlrup_check.specs.declared.verdict.Fault.TheVariants.{Memory};
 
 use crate::recorder::{Recorder, Unrecorded};
@@ -12,21 +12,13 @@ use proof_rules::{JudgeMarks, JudgeRefusal, Live};
 use std::alloc::Global;
 use step_text::{SpareLists, StepSource, TextRefusal};
 
-/// What is kept from one step to the next for its memory alone.
+/// What is kept from one step to the next.
 #[derive(Drop)]
-struct CheckMemory {
+struct Checking<'f> {
+    live: Live<'f>,
+    /// For their memory alone, as the spare lists.
     marks: JudgeMarks,
     spare: SpareLists,
-}
-
-impl CheckMemory {
-    /// No memory yet.
-    fn new(alloc: Global) -> CheckMemory {
-        CheckMemory {
-            marks: JudgeMarks::new(alloc),
-            spare: SpareLists::new(alloc),
-        }
-    }
 }
 
 /// Judges a proof of the formula, from a source of steps.
@@ -66,23 +58,23 @@ pub fn check_and_record<S: StepSource<Step = ProofStep>, R: Recorder>(
     ensures judged { (text : List ℕ) → S.may_read source.new text → IfOk result (IsJudgedBy (λ a. S.leaves a text) formula.now source.old) }
     ensures sound { IfOk result (IsSound formula.now) }
     ensures recorded { R.told recorder.old [] → IfOk result (RecordsAll (S.may_read source.new) S.leaves (R.told recorder.new) formula.now source.old) }
-    ensures cause { (text : List ℕ) → S.may_read source.new text → IfErr result (HasCause (S.passes_limit source.old text) (S.faults source.old) (S.faults source.new)) }
-    ensures long { IfErr result (IsTooLongBy (S.stuck source.new)) }
-    ensures narrows { (text : List ℕ) → S.may_read source.new text → S.may_read source.old text }
-    ensures reads { ReadsStand result (S.faults source.old) (S.faults source.new) }
-    ensures frame { S.keeps source.old source.new }
+    ensures source { LeavesSource S.may_read S.passes_limit S.stuck S.faults S.keeps source.old result source.new }
 {
     if formula.clash().is_some() {
         return Ok(Verdict::Verified(0));
     }
-    let mut live = match Live::of(alloc, formula) {
+    let live = match Live::of(alloc, formula) {
         Ok(live) => live,
         Err(_) => return Err(Fault::Memory),
     };
-    let mut memory = CheckMemory::new(alloc);
+    let mut checking = Checking {
+        live,
+        marks: JudgeMarks::new(alloc),
+        spare: SpareLists::new(alloc),
+    };
     let mut steps = 0;
     loop {
-        match take_next(&mut memory, formula, &mut live, source, recorder, steps) {
+        match take_next(&mut checking, formula, source, recorder, steps) {
             Ok(None) => steps += 1,
             Ok(Some(verdict)) => return Ok(verdict),
             Err(fault) => return Err(fault),
@@ -91,11 +83,10 @@ pub fn check_and_record<S: StepSource<Step = ProofStep>, R: Recorder>(
 }
 
 /// Takes and judges the next step of a proof, after this many right ones that leave these tables and did not end it. There is
-/// no verdict where the proof goes on. `memory` is for its memory alone.
+/// no verdict where the proof goes on.
 fn take_next<S: StepSource<Step = ProofStep>, R: Recorder>(
-    memory: &mut CheckMemory,
+    checking: &mut Checking<'_>,
     formula: &Formula,
-    live: &mut Live,
     source: &mut S,
     recorder: &mut R,
     steps: u64,
@@ -103,28 +94,22 @@ fn take_next<S: StepSource<Step = ProofStep>, R: Recorder>(
     requires fresh { S.is_spent source.old ≡ false }
     requires count { steps < 2 ^ 63 }
     requires few { steps ≤ S.place_of source.old }
-    ensures goes { (first : S) (start : R) → Kept S.may_read S.leaves R.told formula.now first start source.old recorder.old live.old steps
-        → IfOk result (Goes S.may_read S.leaves R.told formula.now first start source.new recorder.new live.new steps) }
-    ensures fresh { IfOk result (λ verdict. verdict ≡ None → S.is_spent source.new ≡ false) }
-    ensures reads { ReadsStand result (S.faults source.old) (S.faults source.new) }
-    ensures rises { IfOk result (λ verdict. verdict ≡ None → S.place_of source.old < S.place_of source.new) }
-    ensures far { S.place_of source.new < 2 ^ 62 }
-    ensures limit { (text : List ℕ) → S.may_read source.new text → S.passes_limit source.new text ≡ S.passes_limit source.old text }
-    ensures cause { (text : List ℕ) → S.may_read source.new text → IfErr result (HasCause (S.passes_limit source.old text) (S.faults source.old) (S.faults source.new)) }
-    ensures long { IfErr result (IsTooLongBy (S.stuck source.new)) }
-    ensures narrows { (text : List ℕ) → S.may_read source.new text → S.may_read source.old text }
-    ensures frame { S.keeps source.old source.new }
+    ensures goes { (first : S) (start : R) → Kept S.may_read S.leaves R.told formula.now first start source.old recorder.old checking.old.live steps
+        → IfOk result (Goes S.may_read S.leaves R.told formula.now first start source.new recorder.new checking.new.live steps) }
+    ensures next { IfOk result (λ verdict. verdict ≡ None → CanGoOn S.is_spent S.place_of source.old source.new) }
+    ensures limits { KeepsLimits S.may_read S.passes_limit S.place_of source.old source.new }
+    ensures source { LeavesSource S.may_read S.passes_limit S.stuck S.faults S.keeps source.old result source.new }
 {
-    let step = match source.next_step(&mut memory.spare) {
+    let step = match source.next_step(&mut checking.spare) {
         Ok(Some(step)) => step,
         Ok(None) => {
             return Ok(Some(Verdict::Refused(steps + 1, Cause::NoEmptyClause)));
         }
         Err(why) => return refused_text(why, steps + 1),
     };
-    let judged = take_step(&mut memory.marks, formula, live, &step);
+    let judged = take_step(&mut checking.marks, formula, &mut checking.live, &step);
     let next = what_follows(judged, recorder, &step, steps + 1);
-    memory.spare.keep(step);
+    checking.spare.keep(step);
     next
 }
 

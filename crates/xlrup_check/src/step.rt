@@ -50,6 +50,26 @@ fn ends_proof(formula: &Formula, kind: Kind, target: &LitList) -> bool
     }
 }
 
+/// What a step adds: literals under an id.
+#[derive(Clone, Copy, Drop)]
+struct Added<'s> {
+    kind: Kind,
+    id: u64,
+    lits: &'s IntList,
+}
+
+impl<'s> Added<'s> {
+    /// These literals under this id.
+    #[inline(always)]
+    fn new(kind: Kind, id: u64, lits: &'s IntList) -> Added<'s>
+        ensures kind { result.kind ≡ kind }
+        ensures id { result.id ≡ id }
+        ensures lits { result.lits.now ≡ lits.now }
+    {
+        Added { kind, id, lits }
+    }
+}
+
 /// Adds the literals of a step, if its hints show them, and says whether they are an ending clause.
 // In each of its places the kind of step is known, and so which judge is asked.
 #[inline(always)]
@@ -57,13 +77,12 @@ fn take_added(
     marks: &mut JudgeMarks,
     formula: &Formula,
     live: &mut Live,
-    kind: Kind,
-    id: u64,
-    lits: &IntList,
+    added: Added<'_>,
     step: &ProofStep,
 ) -> Result<bool, JudgeRefusal>
-    ensures { TakesAdded formula.now live.old kind id lits.now step.now result live.new }
+    ensures { TakesAdded formula.now live.old added.entry.kind added.entry.id added.entry.lits.now step.now result live.new }
 {
+    let Added { kind, id, lits } = added;
     let target = admit_into(marks.literals(), formula.vars(), lits, live.has(kind, id))?;
     judge_added(marks, live, step, &target)?;
     live.add_copy(kind, id, target.as_slice())?;
@@ -94,16 +113,20 @@ pub(crate) fn take_step(
 {
     match step {
         ProofStep::Clause(id, lits, _) => {
-            take_added(marks, formula, live, Kind::Clauses, *id, lits, step)
+            let added = Added::new(Kind::Clauses, *id, lits);
+            take_added(marks, formula, live, added, step)
         }
         ProofStep::Parity(id, lits, _) => {
-            take_added(marks, formula, live, Kind::Parities, *id, lits, step)
+            let added = Added::new(Kind::Parities, *id, lits);
+            take_added(marks, formula, live, added, step)
         }
         ProofStep::ClauseOfParity(id, lits, _) => {
-            take_added(marks, formula, live, Kind::Clauses, *id, lits, step)
+            let added = Added::new(Kind::Clauses, *id, lits);
+            take_added(marks, formula, live, added, step)
         }
         ProofStep::ParityOfClauses(id, lits, _) => {
-            take_added(marks, formula, live, Kind::Parities, *id, lits, step)
+            let added = Added::new(Kind::Parities, *id, lits);
+            take_added(marks, formula, live, added, step)
         }
         ProofStep::DeleteClauses(_, ids) => {
             delete(live, Kind::Clauses, ids);

@@ -6,7 +6,7 @@ use Rattle.step_text.proofs.pieces.put_whole_line.Goals as goal
 
 pub returns : goal.returns
 returns g c =
-    let before = c.args.before.now in
+    let before = c.args.head.before.now in
     let sheet = c.lay_out_line-begin.new.sheet in
     let begin = c.lay_out_line-begin.result in
     let line = drop begin sheet in

@@ -20,42 +20,54 @@ returns-then-is_some-clause-recorded g c = λ none.
 
 pub returns-in-Ok-Some-clause-judged : goal.returns-in-Ok-Some-clause-judged
 returns-in-Ok-Some-clause-judged g c = λ text may.
-    let h = subst (λ (o : Option Verdict). Goes g.S.StepSource.may_read g.S.StepSource.leaves g.R.Recorder.told c.args.formula.now c.args.source.now c.args.recorder.now c.take_next.new.source c.take_next.new.recorder c.take_next.new.live c.loop-steps.steps o) c.in-Ok-Some.field-0-is
+    let h = subst (λ (o : Option Verdict). Goes g.S.StepSource.may_read g.S.StepSource.leaves g.R.Recorder.told c.args.formula.now c.args.source.now c.args.recorder.now c.take_next.new.source c.take_next.new.recorder c.take_next.new.checking.live c.loop-steps.steps o) c.in-Ok-Some.field-0-is
     (c.in-Ok-Some.ensures.goes c.args.source.now c.args.recorder.now c.loop-steps.invariant.kept) in
     h.judged text may
 
 pub returns-in-Ok-Some-clause-sound : goal.returns-in-Ok-Some-clause-sound
 returns-in-Ok-Some-clause-sound g c =
-    let h = subst (λ (o : Option Verdict). Goes g.S.StepSource.may_read g.S.StepSource.leaves g.R.Recorder.told c.args.formula.now c.args.source.now c.args.recorder.now c.take_next.new.source c.take_next.new.recorder c.take_next.new.live c.loop-steps.steps o) c.in-Ok-Some.field-0-is
+    let h = subst (λ (o : Option Verdict). Goes g.S.StepSource.may_read g.S.StepSource.leaves g.R.Recorder.told c.args.formula.now c.args.source.now c.args.recorder.now c.take_next.new.source c.take_next.new.recorder c.take_next.new.checking.live c.loop-steps.steps o) c.in-Ok-Some.field-0-is
     (c.in-Ok-Some.ensures.goes c.args.source.now c.args.recorder.now c.loop-steps.invariant.kept) in
     h.sound
 
 pub returns-in-Ok-Some-clause-recorded : goal.returns-in-Ok-Some-clause-recorded
 returns-in-Ok-Some-clause-recorded g c = λ none.
-    let h = subst (λ (o : Option Verdict). Goes g.S.StepSource.may_read g.S.StepSource.leaves g.R.Recorder.told c.args.formula.now c.args.source.now c.args.recorder.now c.take_next.new.source c.take_next.new.recorder c.take_next.new.live c.loop-steps.steps o) c.in-Ok-Some.field-0-is
+    let h = subst (λ (o : Option Verdict). Goes g.S.StepSource.may_read g.S.StepSource.leaves g.R.Recorder.told c.args.formula.now c.args.source.now c.args.recorder.now c.take_next.new.source c.take_next.new.recorder c.take_next.new.checking.live c.loop-steps.steps o) c.in-Ok-Some.field-0-is
     (c.in-Ok-Some.ensures.goes c.args.source.now c.args.recorder.now c.loop-steps.invariant.kept) in
     h.recorded none
 
-pub returns-in-Ok-Some-clause-narrows : goal.returns-in-Ok-Some-clause-narrows
-returns-in-Ok-Some-clause-narrows g c = λ text may. c.loop-steps.invariant.kept.narrows text (c.in-Ok-Some.ensures.narrows text may)
+pub returns-then-is_some-clause-source : goal.returns-then-is_some-clause-source
+returns-then-is_some-clause-source g c = record { narrows = λ text may. may; cause = λ text may. tt; long = tt; reads = refl; frame = g.met.S.StepSource.keeps_itself c.args.source.now }
 
-pub returns-in-Err-take_next-clause-reads : goal.returns-in-Err-take_next-clause-reads
-returns-in-Err-take_next-clause-reads g c =
-    subst (λ n. ReadsStand (failed c.in-Err-take_next.fault) n (g.S.StepSource.faults c.take_next.new.source)) c.loop-steps.invariant.faults c.in-Err-take_next.ensures.reads
+pub returns-in-Ok-Some-clause-source : goal.returns-in-Ok-Some-clause-source
+returns-in-Ok-Some-clause-source g c =
+    let before = c.loop-steps.invariant in
+    let taken = c.in-Ok-Some.ensures.source in
+    record {
+      narrows = λ text may. before.kept.narrows text (taken.narrows text may);
+      cause = λ text may. tt;
+      long = tt;
+      reads = taken.reads ∙ before.faults;
+      frame = g.met.S.StepSource.keeps_on c.args.source.now c.loop-steps.source c.take_next.new.source before.frame taken.frame;
+    }
+
+pub returns-in-Err-take_next-clause-source : goal.returns-in-Err-take_next-clause-source
+returns-in-Err-take_next-clause-source g c =
+    let before = c.loop-steps.invariant in
+    let taken = c.in-Err-take_next.ensures.source in
+    let now = g.S.StepSource.faults c.take_next.new.source in
+    let fault = c.in-Err-take_next.fault in
+    record {
+      narrows = λ text may. before.kept.narrows text (taken.narrows text may);
+      cause = λ text may. subst (λ n. HasCause (g.S.StepSource.passes_limit c.args.source.now text) n now fault) before.faults
+          (subst (λ p. HasCause p (g.S.StepSource.faults c.loop-steps.source) now fault) (before.limit text (taken.narrows text may)) (taken.cause text may));
+      long = taken.long;
+      reads = subst (λ n. ReadsStand (failed fault) n now) before.faults taken.reads;
+      frame = g.met.S.StepSource.keeps_on c.args.source.now c.loop-steps.source c.take_next.new.source before.frame taken.frame;
+    }
   where
     failed : Fault → Result Verdict Fault
     failed fault = Err fault
-
-pub returns-in-Err-take_next-clause-narrows : goal.returns-in-Err-take_next-clause-narrows
-returns-in-Err-take_next-clause-narrows g c = λ text may. c.loop-steps.invariant.kept.narrows text (c.in-Err-take_next.ensures.narrows text may)
-
-pub returns-in-Err-take_next-clause-cause : goal.returns-in-Err-take_next-clause-cause
-returns-in-Err-take_next-clause-cause g c = λ text may.
-    let before = c.loop-steps.invariant in
-    let cause = c.in-Err-take_next.ensures.cause text may in
-    let then_ = subst (λ p. HasCause p (g.S.StepSource.faults c.loop-steps.source) (g.S.StepSource.faults c.take_next.new.source) c.in-Err-take_next.fault)
-    (before.limit text (c.in-Err-take_next.ensures.narrows text may)) cause in
-    subst (λ n. HasCause (g.S.StepSource.passes_limit c.args.source.now text) n (g.S.StepSource.faults c.take_next.new.source) c.in-Err-take_next.fault) before.faults then_
 
 pub take_next-requires-clause-fresh : goal.take_next-requires-clause-fresh
 take_next-requires-clause-fresh g c = c.loop-steps.invariant.fresh
@@ -72,18 +84,18 @@ loop-steps-preserved g c =
     let taken = c.in-Ok-None.ensures in
     let none = c.in-Ok-None.field-0-is in
     record {
-      kept = subst (λ (o : Option Verdict). Goes g.S.StepSource.may_read g.S.StepSource.leaves g.R.Recorder.told c.args.formula.now c.args.source.now c.args.recorder.now c.take_next.new.source c.take_next.new.recorder c.take_next.new.live c.loop-steps.steps o) none
+      kept = subst (λ (o : Option Verdict). Goes g.S.StepSource.may_read g.S.StepSource.leaves g.R.Recorder.told c.args.formula.now c.args.source.now c.args.recorder.now c.take_next.new.source c.take_next.new.recorder c.take_next.new.checking.live c.loop-steps.steps o) none
           (taken.goes c.args.source.now c.args.recorder.now before.kept);
-      fresh = taken.fresh none;
-      faults = taken.reads ∙ before.faults;
-      few = omega (arith, before.few, taken.rises none);
-      far = omega (arith, before.few, taken.rises none, taken.far);
-      limit = λ text may. taken.limit text may ∙ before.limit text (taken.narrows text may);
-      frame = g.met.S.StepSource.keeps_on c.args.source.now c.loop-steps.source c.take_next.new.source before.frame taken.frame;
+      fresh = (taken.next none).fresh;
+      faults = taken.source.reads ∙ before.faults;
+      few = omega (arith, before.few, (taken.next none).rises);
+      far = omega (arith, before.few, (taken.next none).rises, taken.limits.far);
+      limit = λ text may. taken.limits.limit text may ∙ before.limit text (taken.source.narrows text may);
+      frame = g.met.S.StepSource.keeps_on c.args.source.now c.loop-steps.source c.take_next.new.source before.frame taken.source.frame;
     }
 
 pub loop-steps-smaller : goal.loop-steps-smaller
-loop-steps-smaller g c = omega (arith, c.in-Ok-None.ensures.rises c.in-Ok-None.field-0-is, c.in-Ok-None.ensures.far)
+loop-steps-smaller g c = omega (arith, (c.in-Ok-None.ensures.next c.in-Ok-None.field-0-is).rises, c.in-Ok-None.ensures.limits.far)
 
 pub loop-steps-init : goal.loop-steps-init
 loop-steps-init g c = record {

@@ -4,7 +4,7 @@ use Rattle.xlrup_check.proofs.checker.check_and_record.Given as goal
 
 abbrev pub invariant-loop-steps : goal.invariant-loop-steps
 invariant-loop-steps g l = record {
-  kept : Kept g.S.StepSource.may_read g.S.StepSource.leaves g.R.Recorder.told l.formula l.initial.source l.initial.recorder l.source l.recorder l.live l.steps;
+  kept : Kept g.S.StepSource.may_read g.S.StepSource.leaves g.R.Recorder.told l.formula l.initial.source l.initial.recorder l.source l.recorder l.checking.live l.steps;
   fresh : g.S.StepSource.is_spent l.source ≡ false;
   faults : g.S.StepSource.faults l.source ≡ g.S.StepSource.faults l.initial.source;
   few : l.steps ≤ g.S.StepSource.place_of l.source;

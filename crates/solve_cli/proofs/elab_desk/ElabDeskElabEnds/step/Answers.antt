@@ -10,14 +10,14 @@ returns-clause-source g c =
     let step = c.put_step in
     let o = g.D.Desk.outside s.desk.now in
     let p = g.D.Desk.outside step.new.desk in
-    let still = (still_goes s.failed o step.new.failed p step.ensures.goes).given in
+    let still = (still_goes s.failed o step.new.failed p step.ensures.port.goes).given in
     record {
       text = λ text may. possible_still b o p text still may;
       rest = λ text left ending. (λ h. leaves_still log_steps s.reader.now o p text left ending still h, λ h. leaves_still log_steps s.reader.now p o text left ending (sym still) h);
       limit = λ text may. long_still b o p text still;
       spent = refl;
       stuck = refl;
-      faults = goes_reads s.failed o step.new.failed p step.ensures.goes;
+      faults = goes_reads s.failed o step.new.failed p step.ensures.port.goes;
       place = refl;
       bound = refl;
     }
@@ -26,4 +26,4 @@ pub returns-clause-frame : goal.returns-clause-frame
 returns-clause-frame g c =
     let s = c.args.self.now in
     let step = c.put_step in
-    (refl, refl, printed_on s.reader.now.bytes s.failed (g.D.Desk.outside s.desk.now) step.new.failed (g.D.Desk.outside step.new.desk) step.ensures.goes)
+    (refl, refl, printed_on s.reader.now.bytes s.failed (g.D.Desk.outside s.desk.now) step.new.failed (g.D.Desk.outside step.new.desk) step.ensures.port.goes)
