@@ -10,7 +10,7 @@ use Rattle.cx_desk.specs.Outside.{Bytes, Outside}
 use Rattle.cx_desk.specs.SlotBytes.{BytesState, taken_by}
 use Rattle.cx_texts.specs.declared.line_state.LineState.TheVariants.{Start}
 use Rattle.cx_judgements.specs.LogTexts.{LogRight, LogRefusedAt}
-use Rattle.step_text.specs.Slots.{SlotState}
+use Rattle.step_text.specs.Slots.{SlotState, SlotFrame}
 use Rattle.fratx_elab.specs.declared.outcome.Elab.{Elab}
 use Rattle.fratx_elab.specs.declared.outcome.Elab.TheVariants as elab
 use Rattle.fratx_elab.specs.declared.outcome.ElabFault.{ElabFault}
@@ -28,6 +28,7 @@ use Rattle.cx_words.specs.declared.plans.Plan.{Plan}
 use Rattle.cx_words.specs.declared.plans.Plan.TheVariants as plan
 use Rattle.xlrup_check.specs.declared.verdict.Verdict.{Verdict}
 use Rattle.xlrup_check.specs.declared.verdict.Verdict.TheVariants as verdict
+use Rattle.xlrup_check.specs.Verdicts.{ReadsStand}
 use Rattle.xlrup_check.specs.declared.verdict.Fault.{Fault}
 use Rattle.xlrup_check.specs.declared.verdict.Fault.TheVariants as fault
 use Rattle.solve_cli.specs.declared.ending.Ending.{Ending}
@@ -132,6 +133,11 @@ uncut_as (Ok trimmed) = Ok trimmed
 uncut_as (Err fault.Memory) = Err outcome.Memory
 uncut_as (Err fault.Read) = Err outcome.ReadFault
 uncut_as (Err fault.TooLong) = Err (outcome.Ended (ending.TooLong slot.Second))
+
+-- what a judgement of a slot's text leaves of the slot, and of the faults of reading
+pub record LeavesSlot {T : Type 0} (result : Result T Fault) (s : BytesState) (o : Outside) (t : BytesState) (p : Outside) : Type 0 where
+  pub reads : ReadsStand result o.faults.reads p.faults.reads
+  pub frame : SlotFrame s o t p
 
 -- what stays of an accepted proof has a text and is accepted, and no values meet its core
 abbrev pub IsRightTrimming : Problem → TrimOf → Type 0

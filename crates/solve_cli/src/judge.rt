@@ -4,14 +4,14 @@ ghost use Rattle.cx_desk.specs.Outside.{started_in};
 ghost use Rattle.cx_desk.specs.declared.desk.Slot.TheVariants.{Second};
 ghost use Rattle.cx_texts.specs.ProofText.{proof_steps};
 ghost use Rattle.cx_words.specs.declared.plans.Plan.TheVariants as plan;
-ghost use Rattle.step_text.specs.Slots.{IsPossible, is_too_long, SlotFrame};
+ghost use Rattle.step_text.specs.Slots.{IsPossible, is_too_long};
 ghost use Rattle.step_text.specs.SlotAnswers.{PairLeaves};
 ghost use Rattle.step_text.specs.Texts.{is_spent_by};
-ghost use Rattle.xlrup_check.specs.Verdicts.{IsJudgedBy, HasCause, ReadsStand};
+ghost use Rattle.xlrup_check.specs.Verdicts.{IsJudgedBy, HasCause};
 ghost use Rattle.solve_cli.specs.Happens.{refusal_of, Judged};
 ghost use Rattle.solve_cli.specs.Seen.{seen};
 ghost use Rattle.solve_cli.specs.Steps.{Acts, Ready};
-ghost use Rattle.solve_cli.specs.SlotTexts.{JudgesProof, checked_as, drained_as};
+ghost use Rattle.solve_cli.specs.SlotTexts.{JudgesProof, LeavesSlot, checked_as, drained_as};
 
 use crate::proof_on_desk::ProofOnDesk;
 use crate::{Ending, Outcome, WrongAnswer};
@@ -36,8 +36,7 @@ fn check_on<D: Desk>(
         → IfOk result (IsJudgedBy (PairLeaves proof_steps text) formula.now (reader.old, D.outside desk.old)) }
     ensures cause { (text : List ℕ) → IsPossible reader.new.bytes (D.outside desk.new) text
         → IfErr result (HasCause (is_too_long reader.old.bytes (D.outside desk.old) text) (D.outside desk.old).faults.reads (D.outside desk.new).faults.reads) }
-    ensures reads { ReadsStand result (D.outside desk.old).faults.reads (D.outside desk.new).faults.reads }
-    ensures frame { SlotFrame reader.old.bytes (D.outside desk.old) reader.new.bytes (D.outside desk.new) }
+    ensures slot { LeavesSlot result reader.old.bytes (D.outside desk.old) reader.new.bytes (D.outside desk.new) }
 {
     let mut source = ProofOnDesk { reader, desk };
     check(alloc, formula, &mut source)

@@ -24,6 +24,13 @@ pub(crate) struct Texts {
     pub second: Text,
 }
 
+/// The names of two texts that a command reads: a formula, and what is judged by it.
+#[derive(Drop)]
+pub(crate) struct TextNames {
+    pub formula: Name,
+    pub second: Name,
+}
+
 /// Starts a slot on a file.
 fn start_slot<D: Desk>(desk: &mut D, slot: Slot, name: Name) -> Result<(), Outcome>
     requires unasked { asked_in slot (D.outside desk.old).asked ≡ None }
@@ -97,16 +104,16 @@ fn refused(why: FromRefusal) -> Outcome
 fn begin<D: Desk>(
     alloc: Global,
     desk: &mut D,
-    formula: Name,
-    second: Name,
+    names: TextNames,
     limit: u64,
 ) -> Result<Formula, Outcome>
     requires fresh { Unasked (D.outside desk.old).asked }
     requires limit { limit ≤ 4294967295 }
-    ensures ready { IfOk result (λ _. Ready Second second (D.outside desk.new)) }
-    ensures loads { (p : PlanOf) → formula_of p ≡ Some formula → second_of p ≡ Some second
+    ensures ready { IfOk result (λ _. Ready Second names.second (D.outside desk.new)) }
+    ensures loads { (p : PlanOf) → formula_of p ≡ Some names.formula → second_of p ≡ Some names.second
         → Acts limit (D.outside desk.old) (D.outside desk.new) (λ w. LoadsFormula p limit (seen w (D.outside desk.old)) result (seen w (D.outside desk.new))) }
 {
+    let TextNames { formula, second } = names;
     let formula = read_formula_of(alloc, desk, formula, limit)?;
     start_slot(desk, Slot::Second, second)?;
     Ok(formula)
@@ -130,18 +137,17 @@ pub(crate) fn create_proof<D: Desk>(desk: &mut D, proof: Option<Name>) -> Result
 pub(crate) fn prepare<D: Desk>(
     alloc: Global,
     desk: &mut D,
-    formula: Name,
-    second: Name,
+    names: TextNames,
     proof: Option<Name>,
     limit: u64,
 ) -> Result<Formula, Outcome>
     requires fresh { Unasked (D.outside desk.old).asked }
     requires limit { limit ≤ 4294967295 }
-    ensures ready { IfOk result (λ _. Ready Second second (D.outside desk.new)) }
-    ensures prepares { (p : PlanOf) → formula_of p ≡ Some formula → second_of p ≡ Some second → proof_of p ≡ proof
+    ensures ready { IfOk result (λ _. Ready Second names.second (D.outside desk.new)) }
+    ensures prepares { (p : PlanOf) → formula_of p ≡ Some names.formula → second_of p ≡ Some names.second → proof_of p ≡ proof
         → Acts limit (D.outside desk.old) (D.outside desk.new) (λ w. Prepares p limit (seen w (D.outside desk.old)) result (seen w (D.outside desk.new))) }
 {
-    let formula = begin(alloc, desk, formula, second, limit)?;
+    let formula = begin(alloc, desk, names, limit)?;
     create_proof(desk, proof)?;
     Ok(formula)
 }
@@ -159,7 +165,7 @@ pub(crate) fn load<D: Desk>(
     ensures { (p : PlanOf) → formula_of p ≡ Some formula → second_of p ≡ Some second → proof_of p ≡ None
         → Acts limit (D.outside desk.old) (D.outside desk.new) (λ w. Loads p limit (seen w (D.outside desk.old)) result (seen w (D.outside desk.new))) }
 {
-    let formula = prepare(alloc, desk, formula, second, None, limit)?;
+    let formula = prepare(alloc, desk, TextNames { formula, second }, None, limit)?;
     let second = read_slot(alloc, desk, Slot::Second, limit)?;
     Ok(Texts { formula, second })
 }

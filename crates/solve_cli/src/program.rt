@@ -2,7 +2,7 @@
 ghost use Rattle.std.specs.Prelude.{◌≤◌, ◌^◌, ℕ, Option};
 ghost use Rattle.cx_desk.specs.Agreeing.{MayHave};
 ghost use Rattle.cx_desk.specs.Outside.{Files};
-ghost use Rattle.cx_words.specs.Words.{texts};
+ghost use Rattle.cx_words.specs.Words.{IsFit, texts};
 ghost use Rattle.cx_words.specs.declared.plans.Plan.TheVariants as plan;
 ghost use Rattle.solve_cli.specs.Seen.{seen};
 ghost use Rattle.solve_cli.specs.Commands.{Unasked};
@@ -15,7 +15,7 @@ use crate::blast::blast_formula;
 use crate::demo::{BUDGET, instance_of, show};
 use crate::elab::elaborate_log;
 use crate::judge::{judge_answer, judge_proof};
-use crate::load::{load, prepare};
+use crate::load::{TextNames, load, prepare};
 use crate::print::{put_answer_text, put_message_text};
 use crate::solve::{begin_search, search, search_on};
 use crate::trim::trim_proof;
@@ -42,7 +42,11 @@ fn check<D: Desk>(alloc: Global, desk: &mut D, formula: Name, proof: Name, limit
     requires limit { limit ≤ 4294967295 }
     ensures { Acts limit (D.outside desk.old) (D.outside desk.new) (λ w. Works (plan.Check formula proof) limit (seen w (D.outside desk.old)) result (seen w (D.outside desk.new))) }
 {
-    let formula = match prepare(alloc, desk, formula, proof, None, limit) {
+    let names = TextNames {
+        formula,
+        second: proof,
+    };
+    let formula = match prepare(alloc, desk, names, None, limit) {
         Ok(formula) => formula,
         Err(outcome) => return outcome,
     };
@@ -69,19 +73,12 @@ fn model<D: Desk>(alloc: Global, desk: &mut D, formula: Name, values: Name, limi
 }
 
 /// `elab`: makes a proof of a log.
-fn elab<D: Desk>(
-    alloc: Global,
-    desk: &mut D,
-    formula: Name,
-    log: Name,
-    proof: Name,
-    limit: u64,
-) -> Outcome
+fn elab<D: Desk>(alloc: Global, desk: &mut D, names: TextNames, proof: Name, limit: u64) -> Outcome
     requires fresh { Unasked (D.outside desk.old).asked }
     requires limit { limit ≤ 4294967295 }
-    ensures { Acts limit (D.outside desk.old) (D.outside desk.new) (λ w. Works (plan.Elab formula log proof) limit (seen w (D.outside desk.old)) result (seen w (D.outside desk.new))) }
+    ensures { Acts limit (D.outside desk.old) (D.outside desk.new) (λ w. Works (plan.Elab names.formula names.second proof) limit (seen w (D.outside desk.old)) result (seen w (D.outside desk.new))) }
 {
-    let formula = match prepare(alloc, desk, formula, log, Some(proof), limit) {
+    let formula = match prepare(alloc, desk, names, Some(proof), limit) {
         Ok(formula) => formula,
         Err(outcome) => return outcome,
     };
@@ -92,19 +89,12 @@ fn elab<D: Desk>(
 }
 
 /// `trim`: writes of a proof what its last step needs.
-fn trim<D: Desk>(
-    alloc: Global,
-    desk: &mut D,
-    formula: Name,
-    proof: Name,
-    out: Name,
-    limit: u64,
-) -> Outcome
+fn trim<D: Desk>(alloc: Global, desk: &mut D, names: TextNames, out: Name, limit: u64) -> Outcome
     requires fresh { Unasked (D.outside desk.old).asked }
     requires limit { limit ≤ 4294967295 }
-    ensures { Acts limit (D.outside desk.old) (D.outside desk.new) (λ w. Works (plan.Trim formula proof out) limit (seen w (D.outside desk.old)) result (seen w (D.outside desk.new))) }
+    ensures { Acts limit (D.outside desk.old) (D.outside desk.new) (λ w. Works (plan.Trim names.formula names.second out) limit (seen w (D.outside desk.old)) result (seen w (D.outside desk.new))) }
 {
-    let formula = match prepare(alloc, desk, formula, proof, Some(out), limit) {
+    let formula = match prepare(alloc, desk, names, Some(out), limit) {
         Ok(formula) => formula,
         Err(outcome) => return outcome,
     };
@@ -191,6 +181,50 @@ fn demo<D: Desk>(alloc: Global, desk: &mut D, kind: InstanceKind, size: u32, see
     answer(desk, Ending::Demonstrated(instance, shown))
 }
 
+/// Carries out a plan.
+fn carry_out<D: Desk>(alloc: Global, desk: &mut D, wanted: Plan, limit: u64) -> Outcome
+    requires fresh { Unasked (D.outside desk.old).asked }
+    requires limit { limit ≤ 4294967295 }
+    requires empty { HasNoProof (D.outside desk.old) }
+    requires fit { IsFit wanted }
+    ensures { Acts limit (D.outside desk.old) (D.outside desk.new) (λ w. Works wanted limit (seen w (D.outside desk.old)) result (seen w (D.outside desk.new))) }
+{
+    match wanted {
+        Plan::Check { formula, proof } => check(alloc, desk, formula, proof, limit),
+        Plan::Model { formula, answer } => model(alloc, desk, formula, answer, limit),
+        Plan::Elab {
+            formula,
+            log,
+            proof,
+        } => {
+            let names = TextNames {
+                formula,
+                second: log,
+            };
+            elab(alloc, desk, names, proof, limit)
+        }
+        Plan::Solve {
+            formula,
+            log,
+            conflicts,
+        } => solve(alloc, desk, formula, log, conflicts, limit),
+        Plan::Demo { kind, size, seed } => demo(alloc, desk, kind, size, seed),
+        Plan::Trim {
+            formula,
+            proof,
+            out,
+        } => {
+            let names = TextNames {
+                formula,
+                second: proof,
+            };
+            trim(alloc, desk, names, out, limit)
+        }
+        Plan::Blast { formula, out } => blast(alloc, desk, formula, out, limit),
+        Plan::Affine { formula } => affine(alloc, desk, formula, limit),
+    }
+}
+
 /// Reads the words, and carries out what they ask for.
 fn work<D: Desk>(alloc: Global, desk: &mut D, words: &[String], limit: u64) -> Outcome
     requires fresh { Unasked (D.outside desk.old).asked }
@@ -199,32 +233,7 @@ fn work<D: Desk>(alloc: Global, desk: &mut D, words: &[String], limit: u64) -> O
     ensures { Acts limit (D.outside desk.old) (D.outside desk.new) (λ w. WorksFor (texts words.now) limit (seen w (D.outside desk.old)) result (seen w (D.outside desk.new))) }
 {
     match plan(alloc, words) {
-        Ok(Plan::Check { formula, proof }) => check(alloc, desk, formula, proof, limit),
-        Ok(Plan::Model { formula, answer }) => model(alloc, desk, formula, answer, limit),
-        Ok(
-            Plan::Elab {
-                formula,
-                log,
-                proof,
-            },
-        ) => elab(alloc, desk, formula, log, proof, limit),
-        Ok(
-            Plan::Solve {
-                formula,
-                log,
-                conflicts,
-            },
-        ) => solve(alloc, desk, formula, log, conflicts, limit),
-        Ok(Plan::Demo { kind, size, seed }) => demo(alloc, desk, kind, size, seed),
-        Ok(
-            Plan::Trim {
-                formula,
-                proof,
-                out,
-            },
-        ) => trim(alloc, desk, formula, proof, out, limit),
-        Ok(Plan::Blast { formula, out }) => blast(alloc, desk, formula, out, limit),
-        Ok(Plan::Affine { formula }) => affine(alloc, desk, formula, limit),
+        Ok(wanted) => carry_out(alloc, desk, wanted, limit),
         Err(PlanRefusal::Usage) => Outcome::Usage,
         Err(PlanRefusal::Memory) => Outcome::Memory,
     }

@@ -13,12 +13,12 @@ ghost use Rattle.proof_trim.specs.Laws.{IsRefutation};
 ghost use Rattle.proof_trim.specs.Outcomes.{AnswersAsJudged, IsTrimOf, WhereDone};
 ghost use Rattle.proof_trim.specs.Trimmed.{core_of};
 ghost use Rattle.step_text.specs.SlotAnswers.{PairLeaves};
-ghost use Rattle.step_text.specs.Slots.{IsPossible, is_too_long, SlotFrame};
+ghost use Rattle.step_text.specs.Slots.{IsPossible, is_too_long};
 ghost use Rattle.step_text.specs.Texts.{is_spent_by};
-ghost use Rattle.xlrup_check.specs.Verdicts.{HasCause, ReadsStand};
+ghost use Rattle.xlrup_check.specs.Verdicts.{HasCause};
 ghost use Rattle.solve_cli.specs.Seen.{seen};
 ghost use Rattle.solve_cli.specs.Steps.{Acts, Ready};
-ghost use Rattle.solve_cli.specs.SlotTexts.{IsRightTrimming, ReadsTrimmed, TrimsProof, uncut_as};
+ghost use Rattle.solve_cli.specs.SlotTexts.{LeavesSlot, IsRightTrimming, ReadsTrimmed, TrimsProof, uncut_as};
 
 use crate::judge::drained;
 use crate::proof_on_desk::ProofOnDesk;
@@ -49,8 +49,7 @@ fn trim_on<D: Desk>(
     ensures core { WhereDone result (λ t. Unmet (core_of formula.now t.clauses t.parities)) }
     ensures cause { (text : List ℕ) → IsPossible reader.new.bytes (D.outside desk.new) text
         → IfErr result (HasCause (is_too_long reader.old.bytes (D.outside desk.old) text) (D.outside desk.old).faults.reads (D.outside desk.new).faults.reads) }
-    ensures reads { ReadsStand result (D.outside desk.old).faults.reads (D.outside desk.new).faults.reads }
-    ensures frame { SlotFrame reader.old.bytes (D.outside desk.old) reader.new.bytes (D.outside desk.new) }
+    ensures slot { LeavesSlot result reader.old.bytes (D.outside desk.old) reader.new.bytes (D.outside desk.new) }
 {
     let mut source = ProofOnDesk { reader, desk };
     trim(alloc, formula, &mut source)

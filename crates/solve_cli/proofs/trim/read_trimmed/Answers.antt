@@ -23,7 +23,7 @@ drain_from-rest-requires g c =
     let o = g.D.Desk.outside c.args.desk.now in
     let m = g.D.Desk.outside c.trim_on-judged.new.desk in
     let s = c.trim_on-judged.new.reader.bytes in
-    let frame = subst (λ (x : SlotState). SlotFrame x.bytes o s m) c.new-reader.ensures c.trim_on-judged.ensures.frame in
+    let frame = subst (λ (x : SlotState). SlotFrame x.bytes o s m) c.new-reader.ensures c.trim_on-judged.ensures.slot.frame in
     still_started (first_state Second c.args.limit).bytes o s m frame c.requires.started
 
 pub returns-in_err-trimmed-clause-read : goal.returns-in_err-trimmed-clause-read
@@ -35,12 +35,12 @@ returns-in_err-trimmed-clause-read g c = λ name ready.
     let s = c.trim_on-judged.new.reader.bytes in
     let r = c.trim_on-judged.result in
     let first = c.new-reader.ensures in
-    let frame = subst (λ (x : SlotState). SlotFrame x.bytes o s m) first c.trim_on-judged.ensures.frame in
+    let frame = subst (λ (x : SlotState). SlotFrame x.bytes o s m) first c.trim_on-judged.ensures.slot.frame in
     let judged = subst (λ (x : SlotState). (text : Bytes) → IsPossible s m text → IfOk r (AnswersAsJudged (PairLeaves proof_steps text) f (x, o))) first c.trim_on-judged.ensures.judged in
     let kept = subst (λ (x : SlotState). (text : Bytes) → IsPossible s m text → WhereDone r (IsTrimOf (PairLeaves proof_steps text) f (x, o))) first c.trim_on-judged.ensures.trimmed in
     let cause = subst (λ (x : SlotState). (text : Bytes) → IsPossible s m text → IfErr r (HasCause (is_too_long x.bytes o text) o.faults.reads m.faults.reads)) first c.trim_on-judged.ensures.cause in
     let trims = subst (λ (x : Result TrimOf Outcome). Acts limit o m (λ w. TrimsText f name limit (seen w o) x (seen w m))) (sym c.in_err-trimmed.ensures)
-    (trim_acts f name limit o ready s m frame r judged kept cause c.trim_on-judged.ensures.reads) in
+    (trim_acts f name limit o ready s m frame r judged kept cause c.trim_on-judged.ensures.slot.reads) in
     let is = err_from_is_err_and c.from_residual.result c.from_residual.ensures.1 in
     subst (λ x. Acts limit o m (λ w. ReadsTrimmed f name limit (seen w o) x (seen w m))) (sym (is.1 ∙ ap Err is.2)) trims
 
@@ -55,12 +55,12 @@ returns-in_err-drained-clause-read g c = λ name ready.
     let s = c.trim_on-judged.new.reader.bytes in
     let r = c.trim_on-judged.result in
     let first = c.new-reader.ensures in
-    let frame = subst (λ (x : SlotState). SlotFrame x.bytes o s m) first c.trim_on-judged.ensures.frame in
+    let frame = subst (λ (x : SlotState). SlotFrame x.bytes o s m) first c.trim_on-judged.ensures.slot.frame in
     let judged = subst (λ (x : SlotState). (text : Bytes) → IsPossible s m text → IfOk r (AnswersAsJudged (PairLeaves proof_steps text) f (x, o))) first c.trim_on-judged.ensures.judged in
     let kept = subst (λ (x : SlotState). (text : Bytes) → IsPossible s m text → WhereDone r (IsTrimOf (PairLeaves proof_steps text) f (x, o))) first c.trim_on-judged.ensures.trimmed in
     let cause = subst (λ (x : SlotState). (text : Bytes) → IsPossible s m text → IfErr r (HasCause (is_too_long x.bytes o text) o.faults.reads m.faults.reads)) first c.trim_on-judged.ensures.cause in
     let trims = subst (λ (x : Result TrimOf Outcome). Acts limit o m (λ w. TrimsText f name limit (seen w o) x (seen w m))) (sym c.in_ok-trimmed.ensures)
-    (trim_acts f name limit o ready s m frame r judged kept cause c.trim_on-judged.ensures.reads) in
+    (trim_acts f name limit o ready s m frame r judged kept cause c.trim_on-judged.ensures.slot.reads) in
     let rest = subst (λ (x : Result (Unit {0}) Outcome). Acts limit m p (λ w. RestRead name limit (seen w m) x (seen w p))) (sym c.in_err-drained.ensures)
     (rest_acts name limit o ready s m (has_read name limit o s m ready frame) c.drain_from-rest.result p c.drain_from-rest.ensures) in
     let is = err_from_is_err_and c.from_residual-in_err-drained.result c.from_residual-in_err-drained.ensures.1 in
@@ -78,12 +78,12 @@ returns-clause-read g c = λ name ready.
     let s = c.trim_on-judged.new.reader.bytes in
     let r = c.trim_on-judged.result in
     let first = c.new-reader.ensures in
-    let frame = subst (λ (x : SlotState). SlotFrame x.bytes o s m) first c.trim_on-judged.ensures.frame in
+    let frame = subst (λ (x : SlotState). SlotFrame x.bytes o s m) first c.trim_on-judged.ensures.slot.frame in
     let judged = subst (λ (x : SlotState). (text : Bytes) → IsPossible s m text → IfOk r (AnswersAsJudged (PairLeaves proof_steps text) f (x, o))) first c.trim_on-judged.ensures.judged in
     let kept = subst (λ (x : SlotState). (text : Bytes) → IsPossible s m text → WhereDone r (IsTrimOf (PairLeaves proof_steps text) f (x, o))) first c.trim_on-judged.ensures.trimmed in
     let cause = subst (λ (x : SlotState). (text : Bytes) → IsPossible s m text → IfErr r (HasCause (is_too_long x.bytes o text) o.faults.reads m.faults.reads)) first c.trim_on-judged.ensures.cause in
     let trims = subst (λ (x : Result TrimOf Outcome). Acts limit o m (λ w. TrimsText f name limit (seen w o) x (seen w m))) (sym c.in_ok-trimmed.ensures)
-    (trim_acts f name limit o ready s m frame r judged kept cause c.trim_on-judged.ensures.reads) in
+    (trim_acts f name limit o ready s m frame r judged kept cause c.trim_on-judged.ensures.slot.reads) in
     let rest = subst (λ (x : Result (Unit {0}) Outcome). Acts limit m p (λ w. RestRead name limit (seen w m) x (seen w p))) (sym c.in_ok-drained.ensures)
     (rest_acts name limit o ready s m (has_read name limit o s m ready frame) c.drain_from-rest.result p c.drain_from-rest.ensures) in
     acts_then trims rest (λ w j h. trimmed_within f name limit (seen w o) (seen w m) (seen w p) t j h)
