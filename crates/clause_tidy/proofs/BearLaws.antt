@@ -12,7 +12,8 @@ use Rattle.cx_semantics.proofs.Members.{has_split, has_by_index, all_by}
 use Rattle.tidy_rules.specs.Relations.{is_inside_but, strengthens_at, strengthens, bears_on}
 use Rattle.clause_tidy.specs.Marks.{is_marked, AreMarksOf, HasSoMany}
 use Rattle.clause_tidy.specs.Signatures.{IsSignature, HasOther}
-use Rattle.clause_tidy.proofs.Literals.{not_both, by_cases, any_by, all_at, some_member, inside_through}
+use Rattle.tidy_rules.proofs.InsideLaws.{any_by, some_member, inside_through}
+use Rattle.clause_tidy.proofs.Literals.{not_both, by_cases, all_at}
 use Rattle.clause_tidy.proofs.Tallies.{tally, tally_is, tally_weaker, all_counted, all_but_one}
 
 -- ---- members by index

@@ -9,7 +9,8 @@ use Rattle.cx_semantics.proofs.Closure.{some_are, left_in, left_open, left_has, 
 use Rattle.cx_semantics.proofs.Members.{has_at_head, has_behind, all_by}
 use Rattle.tidy_rules.specs.Relations.{is_inside_but, strengthens_at}
 use Rattle.clause_tidy.specs.Shortened.{IsWithout}
-use Rattle.clause_tidy.proofs.Literals.{not_both, by_cases, all_at, same_is, tautology_by, has_negation}
+use Rattle.tidy_rules.proofs.InsideLaws.{tautology_by}
+use Rattle.clause_tidy.proofs.Literals.{not_both, by_cases, all_at, same_is, has_negation}
 
 -- ---- the same literals again
 -- nothing is left of a clause inside the target

@@ -7,7 +7,7 @@ use Rattle.cx_semantics.proofs.Closure.{inside_itself}
 use Rattle.clause_arena.specs.Clauses.{ArenaState, Stored, clause_at, IsLive, literals_at, id_at, learned_at, learned_in}
 use Rattle.clause_tidy.specs.Derived.{IsDerived, given, chained}
 use Rattle.clause_tidy.specs.Tidying.{IsClauseOf, IsCovered, IsPartOf, Tidies}
-use Rattle.clause_tidy.proofs.Literals.{inside_through, tautology_inside}
+use Rattle.tidy_rules.proofs.InsideLaws.{inside_through, tautology_inside}
 use Rattle.clause_tidy.proofs.RunLaws.{run_on}
 
 -- what is derived from derived clauses is derived
@@ -21,7 +21,7 @@ nothing_tidied formula spare a = record {
   derived = λ q l. given (literals_at a q) (q, l, refl);
   parts = λ q l. record { r = q; live = l; inside = inside_itself (literals_at a q); same = refl };
   learned = λ q l e. refl;
-  runs = λ tables h. (tables, refl, h);
+  runs = λ tables h. (tables, refl, h, λ n free. free);
 }
 
 module _ (formula : Problem) (spare : ℕ) (a b c : ArenaState) (ss ts : List LogStep) (h : Tidies formula spare a b ss) (k : Tidies formula spare b c ts) where
@@ -55,5 +55,5 @@ module _ (formula : Problem) (spare : ℕ) (a b c : ArenaState) (ss ts : List Lo
     runs = λ tables agree.
         let x = h.runs tables agree in
         let y = k.runs x.0 x.2 in
-        (y.0, run_on formula tables x.0 y.0 ss ts x.1 y.1, y.2);
+        (y.0, run_on formula tables x.0 y.0 ss ts x.1 y.1, y.2, λ n free. y.3 n (x.3 n free));
   }

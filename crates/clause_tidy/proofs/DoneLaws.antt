@@ -1,5 +1,5 @@
 -- A tidied arena, and the units that were taken out of it.
-use Rattle.std.proofs.Common.{◌≡◌, ◌≢◌, inl, inr, refl, sym, ap, ◌∙◌, subst, ℕ, zero, suc, ◌<◌, ◌≤◌, Bool, true, List, [], ◌∷◌, length, get_or, Option, Some, arith, true≢false}
+use Rattle.std.proofs.Common.{◌≡◌, ◌≢◌, inl, inr, refl, sym, ap, ◌∙◌, subst, ℕ, zero, suc, ◌<◌, ◌≤◌, Bool, true, List, [], ◌∷◌, length, get_or, Option, Some, arith}
 use Rattle.std.specs.List.{Contains}
 use Rattle.std.proofs.lemmas.Bool.{and_parts}
 use Rattle.cx_base.specs.Literals.{Literal}
@@ -8,8 +8,6 @@ use Rattle.cx_base.specs.declared.steps.LogStep.{LogStep}
 use Rattle.cx_semantics.specs.Chain.{has_literal, is_inside, same_literals}
 use Rattle.cx_semantics.specs.Fresh.{is_tautology}
 use Rattle.cx_semantics.specs.Tables.{Table, get}
-use Rattle.cx_semantics.proofs.Closure.{has_by_inside}
-use Rattle.cx_semantics.proofs.Members.{has_by_index, has_split}
 use Rattle.clause_arena.specs.Clauses.{ArenaState, Stored, IsLive, literals_at, id_at, learned_at, literals_in, id_in, learned_in}
 use Rattle.tidy_rules.specs.declared.part.TidyPart.{TidyPart}
 use Rattle.tidy_rules.specs.declared.part.TidyPart.TheVariants.{Clause, Unit as AUnit}
@@ -17,31 +15,18 @@ use Rattle.tidy_rules.specs.Parts.{IsPart, Tidied, lits_in}
 use Rattle.tidy_rules.specs.Relations.{strengthens}
 use Rattle.clause_tidy.specs.declared.outcome.TidyOf.{TidyOf}
 use Rattle.clause_tidy.specs.declared.outcome.TidyOf.TheVariants.{Done, Ended}
-use Rattle.clause_tidy.specs.Agreeing.{IsNamedBy, HasTwo, Agrees}
+use Rattle.clause_tidy.specs.Agreeing.{IsNamedBy, Agrees}
 use Rattle.clause_tidy.specs.Derived.{IsDerived}
 use Rattle.clause_tidy.specs.Done.{IsCoveredBy, AreNamed, IsTidied, TidiesTo, TakesUnits}
 use Rattle.clause_tidy.specs.Taking.{IsUnitAt, Takes, IsWide}
 use Rattle.clause_tidy.specs.Tidying.{IsClauseOf, IsCovered, Tidies}
+use Rattle.tidy_rules.proofs.OneLaws.{not_two}
 use Rattle.clause_tidy.proofs.LeftLaws.{was_there}
 
 any_default : {X : Type 0} (xs : List X) (i : ℕ) (d e : X) → i < length xs → get_or xs i d ≡ get_or xs i e
 any_default [] i d e h = absurd (omega (arith, h))
 any_default (x ∷ xs) zero d e h = refl
 any_default (x ∷ xs) (suc i) d e h = any_default xs i d e (omega (arith, h))
-
-contained_has : (lits : List Literal) (l : Literal) → Contains lits l → has_literal lits l ≡ true
-contained_has lits l (i, less, e) = ap (has_literal lits) (sym e) ∙ has_by_index lits i l less
-
-only_one : (x l : Literal) → has_literal (x ∷ []) l ≡ true → l ≡ x
-only_one x l h = elim (has_split x [] l h) [ inl e ↦ e | inr none ↦ absurd (true≢false (sym none)) ]
-
--- what says the same as one literal has no two
-not_two : (x : Literal) (clause : List Literal) → same_literals (x ∷ []) clause ≡ true → HasTwo clause → ⊥
-not_two x clause same two =
-    let back = (and_parts (is_inside (x ∷ []) clause) (is_inside clause (x ∷ [])) same).1 in
-    let one = only_one x two.first (has_by_inside clause (x ∷ []) two.first back (contained_has clause two.first two.has_first)) in
-    let other = only_one x two.second (has_by_inside clause (x ∷ []) two.second back (contained_has clause two.second two.has_second)) in
-    two.differ (one ∙ sym other)
 
 same_clause : (x y : List Literal) → Some x ≡ Some y → x ≡ y
 same_clause x y e = cc
@@ -133,7 +118,7 @@ module _ (formula : Problem) (spare : ℕ) (a m b : ArenaState) (units : List Li
     derived = λ p hp. let r = ref_of p hp in subst (IsDerived (IsClauseOf a)) (sym r.2) (t.derived r.0 r.1);
     learned = λ q l tr. k.left.same q l ∙ t.learned q (was_there m b k.left q l) (sym (ap learned_in (k.left.same q l)) ∙ tr);
     wide = λ q low. wide q (omega (arith, low, e));
-    runs = λ tables agree. let x = t.runs tables agree in (x.0, x.1, agrees_still x.0.clauses x.2, named x.0.clauses x.2);
+    runs = λ tables agree. let x = t.runs tables agree in (x.0, x.1, agrees_still x.0.clauses x.2, named x.0.clauses x.2, x.3);
   }
 
 pub outcome_is : (formula : Problem) (spare : ℕ) (a m b : ArenaState) (steps : List LogStep) (first : ℕ) (o : TidyOf) → Tidies formula spare a m steps → Tidied m [] → first ≡ length a.clauses → TakesUnits m b first o → TidiesTo formula spare a b o steps

@@ -80,5 +80,5 @@ module _ (a b : ArenaState) (k : ℕ) (live : IsLive a k) (is : b.clauses ≡ se
     derived = λ q l. given (literals_at b q) (q, was_live q l, sym (same_literals_at q));
     parts = λ q l. record { r = q; live = was_live q l; inside = ap (λ (x : List Literal). is_inside x (literals_at a q)) (same_literals_at q) ∙ inside_itself (literals_at a q); same = same_id_at q };
     learned = λ q l e. learned_stays q e;
-    runs = λ tables h. (tables, refl, agrees_kept spare tables.clauses h);
+    runs = λ tables h. (tables, refl, agrees_kept spare tables.clauses h, λ n free. free);
   }

@@ -17,11 +17,11 @@ use Rattle.clause_arena.proofs.PackingLaws.{live_within}
 use Rattle.clause_tidy.specs.Derived.{given}
 use Rattle.clause_tidy.specs.Answers.{MayGo}
 use Rattle.clause_tidy.specs.Agreeing.{Agrees}
-use Rattle.clause_tidy.specs.Runs.{IsTidyStep}
+use Rattle.tidy_rules.specs.Runs.{IsTidyStep}
 use Rattle.clause_tidy.specs.Tidying.{IsCovered, Tidies}
-use Rattle.clause_tidy.proofs.Literals.{inside_through, tautology_inside}
+use Rattle.tidy_rules.proofs.InsideLaws.{inside_through, tautology_inside}
 use Rattle.clause_tidy.proofs.RunLaws.{one_step}
-use Rattle.clause_tidy.proofs.TableLooks.{drop_other, drop_same, no_clause}
+use Rattle.clause_tidy.proofs.TableLooks.{drop_other, drop_same, drop_keeps_free, no_clause}
 
 abbrev pub NoClause : Option Stored
 NoClause = None
@@ -119,5 +119,6 @@ module _ (formula : Problem) (spare : ℕ) (a b : ArenaState) (r : ℕ) (live : 
       after_log_step tables (Delete (id_at a r) zs),
       one_step formula tables (Delete (id_at a r) zs) tt refl (tidy_step tables.clauses zs h),
       agrees_without spare tables.clauses a b r live is h,
+      drop_keeps_free tables.clauses (id_at a r),
     );
   }

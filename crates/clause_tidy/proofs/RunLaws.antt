@@ -5,7 +5,7 @@ use Rattle.cx_base.specs.declared.steps.LogStep.{LogStep}
 use Rattle.cx_semantics.specs.Judging.{IsRight, Runs}
 use Rattle.cx_semantics.specs.LogRules.{log_calculus, after_log_step, derives_ending_clause}
 use Rattle.cx_semantics.specs.Tables.{Tables}
-use Rattle.clause_tidy.specs.Runs.{IsTidyStep, RunsTidily}
+use Rattle.tidy_rules.specs.Runs.{IsTidyStep, RunsTidily}
 
 pub run_on : (formula : Problem) (a b c : Tables) (ss ts : List LogStep) → RunsTidily formula a ss b → RunsTidily formula b ts c → RunsTidily formula a (ss ++ ts) c
 run_on formula a b c [] ts h k = subst (λ x. RunsTidily formula x ts c) h k

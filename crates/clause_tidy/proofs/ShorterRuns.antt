@@ -1,5 +1,5 @@
 -- A clause that loses a literal, by another that strengthens it.
-use Rattle.std.proofs.Common.{◌≡◌, ◌≢◌, refl, sym, ap, ◌∙◌, subst, ℕ, ℤ, nat_abs, true, false, not, inr, ⊎_elim, List, [], ◌∷◌, ◌++◌, length, set, Option, Some, None, is_some}
+use Rattle.std.proofs.Common.{◌≡◌, ◌≢◌, refl, sym, ap, ◌∙◌, subst, ℕ, ℤ, pos, nat_abs, true, false, not, inr, ⊎_elim, List, [], ◌∷◌, ◌++◌, length, set, Option, Some, None, is_some}
 use Rattle.std.specs.List.{list_any, cons_option}
 use Rattle.std.specs.Prelude.{nat_lt}
 use Rattle.std.specs.FinMap as map_
@@ -12,18 +12,20 @@ use Rattle.cx_base.specs.declared.steps.LogStep.TheVariants.{ClauseWithHints, De
 use Rattle.cx_semantics.specs.Chain.{has_literal, is_inside, same_literals, IsChain}
 use Rattle.cx_semantics.specs.Fresh.{is_tautology}
 use Rattle.cx_semantics.specs.Judging.{IsRight}
-use Rattle.cx_semantics.specs.LogRules.{HasChain, log_calculus}
+use Rattle.cx_semantics.specs.LogRules.{log_calculus}
 use Rattle.cx_semantics.specs.Tables.{Table, Tables, get, named}
 use Rattle.cx_semantics.proofs.Closure.{inside_itself}
 use Rattle.cx_semantics.proofs.SameSets.{HaveSame-by_test, chain_stays_right, inside_by}
 use Rattle.clause_arena.specs.Clauses.{ArenaState, Stored, clause_at, IsLive, literals_at, id_at, literals_in, id_in}
 use Rattle.clause_arena.proofs.PackingLaws.{live_within}
 use Rattle.tidy_rules.specs.Relations.{strengthens_at}
-use Rattle.clause_tidy.specs.Agreeing.{IsNamedBy, HasTwo, Agrees}
-use Rattle.clause_tidy.specs.Runs.{IsTidyStep, RunsTidily, EndsTidily}
+use Rattle.tidy_rules.specs.Tidied.{HasTwo}
+use Rattle.clause_tidy.specs.Agreeing.{IsNamedBy, Agrees}
+use Rattle.tidy_rules.specs.Hints.{AreHintsFor}
+use Rattle.tidy_rules.specs.Runs.{IsTidyStep, KeepsFree, RunsTidily, EndsTidily}
 use Rattle.clause_tidy.specs.Shortened.{IsWithout}
-use Rattle.clause_tidy.specs.Steps.{shortening}
-use Rattle.clause_tidy.proofs.Literals.{inside_through, no_tautology_inside}
+use Rattle.clause_tidy.specs.Steps.{shortening, strengthening}
+use Rattle.tidy_rules.proofs.InsideLaws.{inside_through, no_tautology_inside}
 use Rattle.clause_tidy.proofs.ChainsOfTwo.{chain_of_part, chain_of_two}
 use Rattle.clause_tidy.proofs.Arenas
 use Rattle.clause_tidy.proofs.Removing.{of_table}
@@ -36,7 +38,7 @@ without_inside clause shorter l is = inside_by shorter clause (λ m h. (and_part
 -- ---- the log
 -- the literals of the step, and of the clause that it makes shorter
 module _ (formula : Problem) (spare : ℕ) (table : Table) (parities : Table) (a : ArenaState) (r k : ℕ) (live : IsLive a r) (live_k : IsLive a k)
-    (short : List Literal) (m : Literal) (zs hints again : List ℤ) (h : Agrees spare table a)
+    (short : List Literal) (m : Literal) (zs : List ℤ) (h : Agrees spare table a)
     (has_m : has_literal (literals_at a k) m ≡ true) (at : strengthens_at (literals_at a k) (literals_at a r) m ≡ true)
     (by_ok : is_tautology (literals_at a k) ≡ false) (ok : is_tautology (literals_at a r) ≡ false) (is : IsWithout (literals_at a r) (negate m) short)
     (spells : literals zs ≡ short) (within : list_any (λ z. nat_lt formula.variables (nat_abs z)) zs ≡ false) where
@@ -78,22 +80,23 @@ module _ (formula : Problem) (spare : ℕ) (table : Table) (parities : Table) (a
   short_ok = no_tautology_inside (literals zs) mine.clause inside_mine mine_ok
 
   -- the chain of the two live clauses
-  has_chain : HasChain table (literals zs)
-  has_chain = (
-    id_at a k ∷ n ∷ [],
-    (ap is_some its.live, (ap is_some mine.live, tt)),
-    subst (λ (x : List Literal). IsChain x (named table (id_at a k ∷ n ∷ []))) (sym spells)
+  first_hints : AreHintsFor table (literals zs) (pos (id_at a k) ∷ pos n ∷ [])
+  first_hints = record {
+    ids = id_at a k ∷ n ∷ [];
+    are = refl;
+    live = (ap is_some its.live, (ap is_some mine.live, tt));
+    chain = subst (λ (x : List Literal). IsChain x (named table (id_at a k ∷ n ∷ []))) (sym spells)
         (subst (λ (cs : List (List Literal)). IsChain short cs) (sym ((λ i. cons_option (its.live i) (cons_option (mine.live i) []))))
         (chain_stays_right short short (literals_at a k ∷ literals_at a r ∷ []) (its.clause ∷ mine.clause ∷ []) (λ l. refl)
         (HaveSame-by_test (literals_at a k) its.clause its.same, (HaveSame-by_test (literals_at a r) mine.clause mine.same, tt))
-        (chain_of_two (literals_at a k) (literals_at a r) short m has_m at by_ok ok is))),
-  )
+        (chain_of_two (literals_at a k) (literals_at a r) short m has_m at by_ok ok is)));
+  }
 
-  pub first_right : IsRight (log_calculus formula) T0 (ClauseWithHints spare zs hints)
-  first_right = (within, (ap is_some h.free, (has_chain, tt)))
+  pub first_right : IsRight (log_calculus formula) T0 (strengthening spare (id_at a k) n zs)
+  first_right = (within, (ap is_some h.free, ((first_hints.ids, first_hints.live, first_hints.chain), tt)))
 
-  first_tidy : IsTidyStep table (ClauseWithHints spare zs hints)
-  first_tidy = (mine.clause, (n, mine.live), inside_mine, mine_ok)
+  first_tidy : IsTidyStep table (strengthening spare (id_at a k) n zs)
+  first_tidy = (first_hints, mine.clause, (n, mine.live), inside_mine, mine_ok)
 
   -- the old one goes
   spare_there : get t1 spare ≡ Some (literals zs)
@@ -109,18 +112,19 @@ module _ (formula : Problem) (spare : ℕ) (table : Table) (parities : Table) (a
   spare_still : get t2 spare ≡ Some (literals zs)
   spare_still = drop_other t1 n spare (λ e. apart (sym e)) ∙ spare_there
 
-  third_chain : HasChain t2 (literals zs)
-  third_chain = (
-    spare ∷ [],
-    (ap is_some spare_still, tt),
-    subst (λ (cs : List (List Literal)). IsChain (literals zs) cs) (sym (λ i. cons_option (spare_still i) [])) (chain_of_part (literals zs) (literals zs) (inside_itself (literals zs))),
-  )
+  third_hints : AreHintsFor t2 (literals zs) (pos spare ∷ [])
+  third_hints = record {
+    ids = spare ∷ [];
+    are = refl;
+    live = (ap is_some spare_still, tt);
+    chain = subst (λ (cs : List (List Literal)). IsChain (literals zs) cs) (sym (λ i. cons_option (spare_still i) [])) (chain_of_part (literals zs) (literals zs) (inside_itself (literals zs)));
+  }
 
-  third_right : IsRight (log_calculus formula) (record { clauses = t2; parities = parities }) (ClauseWithHints n zs again)
-  third_right = (within, (ap is_some (drop_same t1 n), (third_chain, tt)))
+  third_right : IsRight (log_calculus formula) (record { clauses = t2; parities = parities }) (ClauseWithHints n zs (pos spare ∷ []))
+  third_right = (within, (ap is_some (drop_same t1 n), ((third_hints.ids, third_hints.live, third_hints.chain), tt)))
 
-  third_tidy : IsTidyStep t2 (ClauseWithHints n zs again)
-  third_tidy = (literals zs, (spare, spare_still), inside_itself (literals zs), short_ok)
+  third_tidy : IsTidyStep t2 (ClauseWithHints n zs (pos spare ∷ []))
+  third_tidy = (third_hints, literals zs, (spare, spare_still), inside_itself (literals zs), short_ok)
 
   -- and the spare one goes
   named_there : get t3 n ≡ Some (literals zs)
@@ -132,11 +136,21 @@ module _ (formula : Problem) (spare : ℕ) (table : Table) (parities : Table) (a
   fourth_tidy : IsTidyStep t3 (Delete spare [])
   fourth_tidy = inr (n, apart, literals zs, named_there, ap (is_inside (literals zs)) (of_table t3 spare (literals zs) spare_again) ∙ inside_itself (literals zs))
 
-  pub runs_shortening : is_ending formula.constraints (literals zs) ≡ false → RunsTidily formula T0 (shortening spare n zs hints again) (record { clauses = t4; parities = parities })
+  pub runs_shortening : is_ending formula.constraints (literals zs) ≡ false → RunsTidily formula T0 (shortening spare (id_at a k) n zs) (record { clauses = t4; parities = parities })
   runs_shortening no_end = (first_right, no_end, first_tidy, (tt, refl, second_tidy, (third_right, no_end, third_tidy, (tt, refl, fourth_tidy, refl))))
 
-  pub ends_there : is_ending formula.constraints (literals zs) ≡ true → EndsTidily formula T0 short (ClauseWithHints spare zs hints ∷ [])
-  ends_there all = record { before = []; step = ClauseWithHints spare zs hints; split = refl; last = T0; runs = refl; right = first_right; ends = all; adds = spells }
+  pub ends_there : is_ending formula.constraints (literals zs) ≡ true → EndsTidily formula T0 short (strengthening spare (id_at a k) n zs ∷ [])
+  ends_there all = record {
+    before = [];
+    step = strengthening spare (id_at a k) n zs;
+    split = refl;
+    last = T0;
+    runs = refl;
+    right = first_right;
+    ends = all;
+    adds = spells;
+    by_chain = (spare, zs, pos (id_at a k) ∷ pos n ∷ [], refl, first_hints);
+  }
 
   -- ---- agreement
   pub far_look : (q : ℕ) → q ≢ n → q ≢ spare → get t4 q ≡ get table q
@@ -144,6 +158,12 @@ module _ (formula : Problem) (spare : ℕ) (table : Table) (parities : Table) (a
 
   pub near_look : get t4 n ≡ Some (literals zs)
   near_look = drop_other t3 spare n apart ∙ named_there
+
+  pub free_again : KeepsFree table t4
+  free_again q free = ⊎_elim
+      (λ (same : q ≡ n). absurd (no_clause mine.clause (sym mine.live ∙ ap (get table) (sym same) ∙ free)))
+      (λ (ne : q ≢ n). ⊎_elim (λ (same : q ≡ spare). ap (get t4) same ∙ drop_same t3 spare) (λ (ne_spare : q ≢ spare). far_look q ne ne_spare ∙ free) (cases_eq q spare))
+      (cases_eq q n)
 
   module _ (b : ArenaState) (lbd : ℕ) (grown : b.clauses ≡ set a.clauses r None ++ Some (record { literals = short; id = n; lbd = lbd; learned = false }) ∷ []) where
     abbrev new : Stored

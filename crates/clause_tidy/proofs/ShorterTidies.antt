@@ -20,7 +20,7 @@ use Rattle.clause_tidy.specs.Steps.{shortening}
 use Rattle.clause_tidy.specs.Tidying.{IsClauseOf, IsCovered, IsPartOf, Tidies}
 use Rattle.clause_tidy.proofs.ChainsOfTwo.{chain_of_two}
 use Rattle.clause_tidy.proofs.Arenas
-use Rattle.clause_tidy.proofs.ShorterRuns.{without_inside, runs_shortening, agrees_shortened}
+use Rattle.clause_tidy.proofs.ShorterRuns.{without_inside, runs_shortening, free_again, agrees_shortened}
 
 one_of_one : (x h : List Literal) → Contains (x ∷ []) h → h ≡ x
 one_of_one x h (k, less, e) = let first : k ≡ 0 = omega (arith, less) in sym e ∙ ap (λ i. get_or (x ∷ []) i h) first
@@ -37,7 +37,7 @@ rest_derived a k r live_k live rest s = chained rest (literals_at a k ∷ litera
     ])
     (chain_of_two (literals_at a k) (literals_at a r) rest s.m s.has_m s.at s.by_ok s.ok s.is)
 
-module _ (formula : Problem) (spare : ℕ) (a b : ArenaState) (r k : ℕ) (live : IsLive a r) (live_k : IsLive a k) (short : List Literal) (m : Literal) (zs hints again : List ℤ)
+module _ (formula : Problem) (spare : ℕ) (a b : ArenaState) (r k : ℕ) (live : IsLive a r) (live_k : IsLive a k) (short : List Literal) (m : Literal) (zs : List ℤ)
     (has_m : has_literal (literals_at a k) m ≡ true) (at : strengthens_at (literals_at a k) (literals_at a r) m ≡ true)
     (by_ok : is_tautology (literals_at a k) ≡ false) (ok : is_tautology (literals_at a r) ≡ false) (is : IsWithout (literals_at a r) (negate m) short)
     (spells : literals zs ≡ short) (within : list_any (λ z. nat_lt formula.variables (nat_abs z)) zs ≡ false) (no_end : is_ending formula.constraints (literals zs) ≡ false)
@@ -88,7 +88,7 @@ module _ (formula : Problem) (spare : ℕ) (a b : ArenaState) (r k : ℕ) (live 
   learn q (Arenas.newest e) l t = absurd (true≢false (sym t ∙ ap (learned_at b) e ∙ ap learned_in at_end))
   learn q (Arenas.older low ne) l t = Arenas.stays a b r live new grown q low ne
 
-  pub shortening_tidies : Tidies formula spare a b (shortening spare (id_at a r) zs hints again)
+  pub shortening_tidies : Tidies formula spare a b (shortening spare (id_at a k) (id_at a r) zs)
   shortening_tidies = record {
     covers = cover;
     derived = λ q l. derive q (Arenas.which a b r live new grown q l) l;
@@ -96,7 +96,8 @@ module _ (formula : Problem) (spare : ℕ) (a b : ArenaState) (r k : ℕ) (live 
     learned = λ q l t. learn q (Arenas.which a b r live new grown q l) l t;
     runs = λ tables h. (
       _,
-      runs_shortening formula spare tables.clauses tables.parities a r k live live_k short m zs hints again h has_m at by_ok ok is spells within no_end,
-      agrees_shortened formula spare tables.clauses tables.parities a r k live live_k short m zs hints again h has_m at by_ok ok is spells within b lbd grown,
+      runs_shortening formula spare tables.clauses tables.parities a r k live live_k short m zs h has_m at by_ok ok is spells within no_end,
+      agrees_shortened formula spare tables.clauses tables.parities a r k live live_k short m zs h has_m at by_ok ok is spells within b lbd grown,
+      free_again formula spare tables.clauses tables.parities a r k live live_k short m zs h has_m at by_ok ok is spells within,
     );
   }

@@ -1,5 +1,5 @@
 -- A shortened clause, told to a sink.
-use Rattle.std.proofs.Common.{◌≡◌, refl, sym, ap, ◌∙◌, subst, ℕ, zero, suc, ◌<◌, true, false, List, [], ◌∷◌, ◌++◌, length, set, get_or, ℤ, Option, Some, None, IsSome, Result, Ok, Err, arith}
+use Rattle.std.proofs.Common.{◌≡◌, refl, sym, ap, ◌∙◌, subst, ℕ, zero, suc, ◌<◌, true, false, List, [], ◌∷◌, ◌++◌, length, set, get_or, Option, Some, None, IsSome, Result, Ok, Err, arith}
 use Rattle.std.proofs.lemmas.List.{get_or_append_left}
 use Rattle.cx_base.specs.Assumptions.{is_ending}
 use Rattle.cx_base.specs.Literals.{Literal, negate}
@@ -9,16 +9,16 @@ use Rattle.std.specs.Prelude.{nat_lt, nat_abs}
 use Rattle.cx_base.specs.Integers.{integers_of, literals}
 use Rattle.cx_base.specs.declared.steps.LogEvent.{LogEvent}
 use Rattle.cx_base.specs.declared.steps.LogStep.{LogStep}
-use Rattle.cx_base.specs.declared.steps.LogStep.TheVariants.{ClauseWithHints}
+use Rattle.cx_base.specs.declared.steps.LogEvent.TheVariants.{Step}
 use Rattle.clause_arena.specs.Clauses.{ArenaState, Stored, IsLive, literals_at, id_at}
 use Rattle.clause_arena.proofs.PackingLaws.{live_within}
 use Rattle.step_text.specs.declared.sink.Sink as sink
 use Rattle.step_text.specs.declared.sink.SinkFault.{SinkFault}
 use Rattle.step_text.specs.declared.sink.SinkFault.TheVariants.{Memory}
 use Rattle.clause_tidy.specs.Agreeing.{AreProper}
-use Rattle.clause_tidy.specs.Answers.{IsRightFrom, IsEnded, TidiesOn, TellsSuch}
+use Rattle.clause_tidy.specs.Answers.{IsRightFrom, IsEnded, TidiesOn}
 use Rattle.clause_tidy.specs.Shortened.{Shortens}
-use Rattle.clause_tidy.specs.Steps.{shortening, IsShortening, IsEnding}
+use Rattle.clause_tidy.specs.Steps.{shortening, strengthening}
 use Rattle.clause_tidy.specs.Telling.{TellsIn, as_events}
 use Rattle.clause_tidy.specs.Tidying.{Tidies}
 use Rattle.clause_tidy.proofs.Events.{no_more}
@@ -58,33 +58,31 @@ module _ (formula : Problem) (spare : ℕ) (a : ArenaState) (k r : ℕ) (live : 
   same_end : is_ending formula.constraints (literals (integers_of rest)) ≡ is_ending formula.constraints rest
   same_end = ap (is_ending formula.constraints) are
 
-  right : is_ending formula.constraints rest ≡ false → (hints again : List ℤ) → IsRightFrom formula spare a (shortening spare (id_at a r) (integers_of rest) hints again)
-  right no_end hints again tables h = (
+  right : is_ending formula.constraints rest ≡ false → IsRightFrom formula spare a (shortening spare (id_at a k) (id_at a r) (integers_of rest))
+  right no_end tables h = (
     _,
-    runs_shortening formula spare tables.clauses tables.parities a r k live live_k rest s.m (integers_of rest) hints again h s.has_m s.at s.by_ok s.ok s.is are low (same_end ∙ no_end),
+    runs_shortening formula spare tables.clauses tables.parities a r k live live_k rest s.m (integers_of rest) h s.has_m s.at s.by_ok s.ok s.is are low (same_end ∙ no_end),
   )
 
   -- the four steps
   pub shorter_told : {L T : Type 0} (m : sink.Ghosts L LogEvent) (old new : L) (result : Result T SinkFault) (b : ArenaState) (lbd : ℕ) → is_ending formula.constraints rest ≡ false
       → ((t : T) → result ≡ Ok t → b.clauses ≡ set a.clauses r None ++ Some (record { literals = rest; id = id_at a r; lbd = lbd; learned = false }) ∷ [])
-      → TellsSuch m (IsShortening spare (id_at a r) (integers_of rest)) old result new → TidiesOn m formula spare a old result (λ _. Tidies formula spare a b) new
-  shorter_told m old new result b lbd no_end grown (steps, (hints, again, is), tells) =
-      let all = shortening spare (id_at a r) (integers_of rest) hints again in
-      tells_tidily m formula spare a all (λ _. Tidies formula spare a b) old new (run_is_right formula spare a all (right no_end hints again)) result
-      (subst (λ ss. TellsIn m (as_events ss) old result new) is tells)
-      (λ t e. shortening_tidies formula spare a b r k live live_k rest s.m (integers_of rest) hints again s.has_m s.at s.by_ok s.ok s.is are low (same_end ∙ no_end) lbd (grown t e))
+      → TellsIn m (as_events (shortening spare (id_at a k) (id_at a r) (integers_of rest))) old result new → TidiesOn m formula spare a old result (λ _. Tidies formula spare a b) new
+  shorter_told m old new result b lbd no_end grown tells =
+      let all = shortening spare (id_at a k) (id_at a r) (integers_of rest) in
+      tells_tidily m formula spare a all (λ _. Tidies formula spare a b) old new (run_is_right formula spare a all (right no_end)) result tells
+      (λ t e. shortening_tidies formula spare a b r k live live_k rest s.m (integers_of rest) s.has_m s.at s.by_ok s.ok s.is are low (same_end ∙ no_end) lbd (grown t e))
 
   -- an ending clause is left
   pub ending_told : {L T : Type 0} (m : sink.Ghosts L LogEvent) (old new : L) (result : Result T SinkFault) → is_ending formula.constraints rest ≡ true
-      → TellsSuch m (IsEnding spare (integers_of rest)) old result new → TidiesOn m formula spare a old result (λ _. IsEnded formula spare a rest) new
-  ending_told m old new result all (steps, (hints, is), tells) =
-      let one = ClauseWithHints spare (integers_of rest) hints in
+      → TellsIn m (Step (strengthening spare (id_at a k) (id_at a r) (integers_of rest)) ∷ []) old result new → TidiesOn m formula spare a old result (λ _. IsEnded formula spare a rest) new
+  ending_told m old new result all tells =
+      let one = strengthening spare (id_at a k) (id_at a r) (integers_of rest) in
       tells_tidily m formula spare a (one ∷ []) (λ _. IsEnded formula spare a rest) old new
-      (one_is_right formula spare a one (λ tables h. first_right formula spare tables.clauses tables.parities a r k live live_k rest s.m (integers_of rest) hints [] h s.has_m s.at s.by_ok s.ok s.is are low))
-      result
-      (subst (λ ss. TellsIn m (as_events ss) old result new) is tells)
+      (one_is_right formula spare a one (λ tables h. first_right formula spare tables.clauses tables.parities a r k live live_k rest s.m (integers_of rest) h s.has_m s.at s.by_ok s.ok s.is are low))
+      result tells
       (λ t e. record {
         ending = all;
         derived = rest_derived a k r live_k live rest s;
-        ends = λ tables h. ends_there formula spare tables.clauses tables.parities a r k live live_k rest s.m (integers_of rest) hints [] h s.has_m s.at s.by_ok s.ok s.is are low (same_end ∙ all);
+        ends = λ tables h. ends_there formula spare tables.clauses tables.parities a r k live live_k rest s.m (integers_of rest) h s.has_m s.at s.by_ok s.ok s.is are low (same_end ∙ all);
       })

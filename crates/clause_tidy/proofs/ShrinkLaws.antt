@@ -7,7 +7,7 @@ use Rattle.clause_arena.specs.Clauses.{ArenaState, IsLive, literals_at}
 use Rattle.clause_arena.proofs.PackingLaws.{live_within}
 use Rattle.cx_semantics.proofs.Closure.{inside_itself}
 use Rattle.clause_tidy.specs.Shrinking.{Shrinks}
-use Rattle.clause_tidy.proofs.Literals.{inside_through}
+use Rattle.tidy_rules.proofs.InsideLaws.{inside_through}
 
 module _ (a b c : ArenaState) (h : Shrinks a b) (k : Shrinks b c) where
   -- what went stays gone

@@ -13,7 +13,7 @@ use Rattle.clause_tidy.specs.Derived.{IsDerived}
 use Rattle.clause_tidy.specs.Tidying.{IsClauseOf, Tidies}
 use Rattle.clause_tidy.proofs.Composing.{derived_through, nothing_tidied, tidied_on}
 use Rattle.clause_tidy.proofs.Events.{no_more}
-use Rattle.clause_tidy.proofs.Literals.{no_tautology_inside}
+use Rattle.tidy_rules.proofs.InsideLaws.{no_tautology_inside}
 use Rattle.clause_tidy.proofs.RunLaws.{run_on}
 use Rattle.clause_tidy.proofs.Spelling.{within_part}
 use Rattle.clause_tidy.proofs.Tellings.{goes_on}
@@ -49,6 +49,7 @@ end_on formula spare a b lits ss ts h k tables agree =
       right = e.right;
       ends = e.ends;
       adds = e.adds;
+      by_chain = e.by_chain;
     }
 
 pub mend_on : (formula : Problem) (spare : ℕ) (a b c : ArenaState) (ss ts : List LogStep) (ended : Option (List Literal)) → Tidies formula spare a b ss → MendsTo formula spare b c ended ts → MendsTo formula spare a c ended (ss ++ ts)

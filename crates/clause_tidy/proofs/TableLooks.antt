@@ -4,6 +4,7 @@ use Rattle.std.specs.FinMap as map_
 use Rattle.cx_base.specs.Literals.{Literal}
 use Rattle.cx_semantics.specs.Tables.{Table, get}
 use Rattle.cx_semantics.proofs.Lookups.{Looks-insert, Looks-remove}
+use Rattle.tidy_rules.specs.Runs.{KeepsFree}
 use Rattle.clause_tidy.proofs.Literals.{by_cases}
 
 apart : (m n : ℕ) → m ≢ n → nat_eq m n ≡ false
@@ -20,6 +21,11 @@ drop_other table n m h = Looks-remove table (get table) n (λ _. refl) m ∙ ap 
 
 pub drop_same : (table : Table) (n : ℕ) → get (map_.remove table n) n ≡ None
 drop_same table n = Looks-remove table (get table) n (λ _. refl) n ∙ ap (λ b. cond b None (get table n)) (eq-eqb n n refl)
+
+pub drop_keeps_free : (table : Table) (n : ℕ) → KeepsFree table (map_.remove table n)
+drop_keeps_free table n m free = by_cases (nat_eq m n)
+    (λ e. Looks-remove table (get table) n (λ _. refl) m ∙ ap (λ b. cond b None (get table m)) e)
+    (λ e. Looks-remove table (get table) n (λ _. refl) m ∙ ap (λ b. cond b None (get table m)) e ∙ free)
 
 pub no_clause : (x : List Literal) → ◌≡◌ {A = Option (List Literal)} (Some x) None → ⊥
 no_clause x q = cc

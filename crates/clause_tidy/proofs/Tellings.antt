@@ -17,7 +17,7 @@ use Rattle.step_text.specs.declared.sink.SinkFault.TheVariants.{Memory, Failed}
 use Rattle.step_text.specs.Sinks.{SinkFaultsAs, HasFailedAs, OnFailed}
 use Rattle.clause_tidy.specs.Agreeing.{Agrees}
 use Rattle.clause_tidy.specs.Answers.{IsRightFrom, MayFollow, TidiesOn}
-use Rattle.clause_tidy.specs.Runs.{RunsTidily}
+use Rattle.tidy_rules.specs.Runs.{RunsTidily}
 use Rattle.clause_tidy.specs.Telling.{TellsIn, as_events, with_events}
 use Rattle.clause_tidy.specs.Tidying.{Tidies}
 use Rattle.clause_tidy.proofs.Events.{more_and_more}

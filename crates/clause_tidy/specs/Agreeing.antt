@@ -1,24 +1,11 @@
 -- When the clauses of an arena are those of a log.
-use Rattle.std.specs.Prelude.{◌≡◌, ◌≢◌, ◌≤◌, ℕ, List, Some, None, IsTrue, Contains}
+use Rattle.std.specs.Prelude.{◌≡◌, ◌≤◌, ℕ, List, Some, None}
 use Rattle.cx_base.specs.Literals.{Literal}
 use Rattle.cx_base.specs.Problem.{Problem, AreWithin}
-use Rattle.cx_semantics.specs.Chain.{same_literals}
 use Rattle.cx_semantics.specs.Tables.{Table, get}
+pub use Rattle.tidy_rules.specs.Hints.{IsNamedBy}
+use Rattle.tidy_rules.specs.Tidied.{HasTwo}
 use Rattle.clause_arena.specs.Clauses.{ArenaState, IsLive, literals_at, id_at}
-
--- the live clause of this id has just these literals
-pub record IsNamedBy (table : Table) (lits : List Literal) (n : ℕ) : Type 0 where
-  pub clause : List Literal
-  pub live : get table n ≡ Some clause
-  pub same : IsTrue (same_literals lits clause)
-
--- the list has two different literals
-pub record HasTwo (lits : List Literal) : Type 0 where
-  pub first : Literal
-  pub second : Literal
-  pub has_first : Contains lits first
-  pub has_second : Contains lits second
-  pub differ : first ≢ second
 
 -- Each clause of the arena is the log's live clause of its id, each under an id of its own, and each live clause with two different literals is one of them. The spare id is that of no live clause.
 pub record Agrees (spare : ℕ) (table : Table) (arena : ArenaState) : Type 0 where

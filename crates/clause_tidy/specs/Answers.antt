@@ -17,8 +17,8 @@ use Rattle.step_text.specs.declared.sink.SinkFault.{SinkFault}
 use Rattle.step_text.specs.Sinks.{SinkFaultsAs, HasFailedAs, OnFailed}
 use Rattle.clause_tidy.specs.declared.pairs.Pair.{Pair}
 use Rattle.clause_tidy.specs.Agreeing.{Agrees, AreProper, IsStepId}
-use Rattle.clause_tidy.specs.Runs.{RunsTidily, EndsTidily}
-use Rattle.clause_tidy.specs.Telling.{TellsIn, as_events, with_events}
+use Rattle.tidy_rules.specs.Runs.{RunsTidily, EndsTidily}
+use Rattle.clause_tidy.specs.Telling.{as_events, with_events}
 use Rattle.clause_tidy.specs.Derived.{IsDerived}
 use Rattle.clause_tidy.specs.Tidying.{IsClauseOf, Tidies}
 
@@ -75,10 +75,6 @@ pub record TidiesOn {L T : Type 0} (m : sink.Ghosts L LogEvent) (formula : Probl
   pub faults : SinkFaultsAs result (m.faults old) (m.faults new)
   pub failed : HasFailedAs result (m.has_failed old) (m.has_failed new)
   pub frame : m.keeps old new
-
--- the sink is told such steps, or a prefix of them up to a fault
-abbrev pub TellsSuch : {L T : Type 0} → sink.Ghosts L LogEvent → (List LogStep → Type 0) → L → Result T SinkFault → L → Type 0
-TellsSuch m Such old result new = (steps : List LogStep) × Such steps × TellsIn m (as_events steps) old result new
 
 -- the log has ended, by a clause of these literals, or the arena was tidied
 abbrev pub MendsTo : Problem → ℕ → ArenaState → ArenaState → Option (List Literal) → List LogStep → Type 0

@@ -14,7 +14,7 @@ use Rattle.clause_tidy.specs.declared.outcome.TidyOf.TheVariants.{Done, Ended}
 use Rattle.clause_tidy.specs.Agreeing.{IsNamedBy, Agrees}
 use Rattle.clause_tidy.specs.Answers.{IsEnded}
 use Rattle.clause_tidy.specs.Derived.{IsDerived}
-use Rattle.clause_tidy.specs.Runs.{RunsTidily}
+use Rattle.tidy_rules.specs.Runs.{KeepsFree, RunsTidily}
 use Rattle.clause_tidy.specs.Taking.{Lists, Takes, IsWide}
 use Rattle.clause_tidy.specs.Tidying.{IsClauseOf, IsCovered}
 
@@ -26,9 +26,9 @@ IsCoveredBy a units clause learned = IsCovered a clause learned ⊎ ((l : Litera
 abbrev pub AreNamed : Table → List Literal → List ℕ → Type 0
 AreNamed table units ids = (l : Literal) (n : ℕ) → Lists units ids l n → IsNamedBy table (l ∷ []) n
 
--- Where a log agrees with the first arena, the steps are right, and none ends it. Then it agrees with the second one, and each unit is its live clause of that id.
+-- Where a log agrees with the first arena, the steps are right, and none ends it. Then it agrees with the second one, each unit is its live clause of that id, and ids that were free are free.
 abbrev pub AgreesAgain : Problem → ℕ → ArenaState → ArenaState → List Literal → List ℕ → List LogStep → Type 0
-AgreesAgain formula spare a b units ids steps = (tables : Tables) → Agrees spare tables.clauses a → (last : Tables) × RunsTidily formula tables steps last × Agrees spare last.clauses b × AreNamed last.clauses units ids
+AgreesAgain formula spare a b units ids steps = (tables : Tables) → Agrees spare tables.clauses a → (last : Tables) × RunsTidily formula tables steps last × Agrees spare last.clauses b × AreNamed last.clauses units ids × KeepsFree tables.clauses last.clauses
 
 -- The clauses together with the units are tidy. What was there is covered, by what was not learned where it was not learned. Each clause and unit was derived from what was there. What is learned was there as it is. No clause that came has just one literal. Where a log agreed with the arena, it does again.
 pub record IsTidied (formula : Problem) (spare : ℕ) (a b : ArenaState) (units : List Literal) (ids : List ℕ) (steps : List LogStep) : Type 0 where

@@ -1,6 +1,5 @@
 pub mod Derived
 pub mod Agreeing
-pub mod Runs
 pub mod Steps
 pub mod Shortened
 pub mod Tidying

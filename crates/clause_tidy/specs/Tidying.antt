@@ -9,7 +9,7 @@ use Rattle.cx_semantics.specs.Tables.{Tables}
 use Rattle.clause_arena.specs.Clauses.{ArenaState, clause_at, IsLive, literals_at, id_at, learned_at}
 use Rattle.clause_tidy.specs.Derived.{IsDerived}
 use Rattle.clause_tidy.specs.Agreeing.{Agrees}
-use Rattle.clause_tidy.specs.Runs.{RunsTidily}
+use Rattle.tidy_rules.specs.Runs.{KeepsFree, RunsTidily}
 
 -- a clause of the arena
 abbrev pub IsClauseOf : ArenaState → List Literal → Type 0
@@ -26,10 +26,10 @@ pub record IsPartOf (a : ArenaState) (clause : List Literal) (id : ℕ) : Type 0
   pub inside : IsTrue (is_inside clause (literals_at a r))
   pub same : id ≡ id_at a r
 
--- From one arena to another: what was there is covered, what is there was derived from it and is part of it, and what is learned was there. Where a log agrees with the first, these steps are right and make it agree with the second.
+-- From one arena to another: what was there is covered, what is there was derived from it and is part of it, and what is learned was there. Where a log agrees with the first, these steps are right and make it agree with the second, and ids that were free are free.
 pub record Tidies (formula : Problem) (spare : ℕ) (old new : ArenaState) (steps : List LogStep) : Type 0 where
   pub covers : (r : ℕ) → IsLive old r → IsCovered new (literals_at old r) (learned_at old r)
   pub derived : (q : ℕ) → IsLive new q → IsDerived (IsClauseOf old) (literals_at new q)
   pub parts : (q : ℕ) → IsLive new q → IsPartOf old (literals_at new q) (id_at new q)
   pub learned : (q : ℕ) → IsLive new q → IsTrue (learned_at new q) → clause_at new q ≡ clause_at old q
-  pub runs : (tables : Tables) → Agrees spare tables.clauses old → (last : Tables) × RunsTidily formula tables steps last × Agrees spare last.clauses new
+  pub runs : (tables : Tables) → Agrees spare tables.clauses old → (last : Tables) × RunsTidily formula tables steps last × Agrees spare last.clauses new × KeepsFree tables.clauses last.clauses

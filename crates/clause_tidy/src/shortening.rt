@@ -1,15 +1,15 @@
 //! The changes that tidying makes, each told to the log: a clause loses a literal.
-ghost use Rattle.std.specs.Prelude.{◌≡◌, ◌⊎◌, ◌<◌, length, true, false, MatchBool, IfOk};
+ghost use Rattle.std.specs.Prelude.{◌≡◌, ◌⊎◌, ◌<◌, pos, [], ◌∷◌, length, true, false, MatchBool, IfOk};
 ghost use Rattle.std.specs.List.{AllByRecursion};
 ghost use Rattle.cx_base.specs.Literals.{same_literal};
 ghost use Rattle.cx_semantics.specs.Chain.{has_literal};
 ghost use Rattle.cx_base.specs.Integers.{integers_of, literals};
+ghost use Rattle.cx_base.specs.declared.steps.LogEvent.TheVariants.{Step};
 ghost use Rattle.cx_base.specs.declared.steps.LogStep.TheVariants.{ClauseWithHints};
 ghost use Rattle.clause_tidy.specs.Agreeing.{IsStepId};
 ghost use Rattle.clause_tidy.specs.Shortened.{IsWithout};
-ghost use Rattle.clause_tidy.specs.Answers.{TellsSuch};
-ghost use Rattle.clause_tidy.specs.Steps.{IsShortening, IsAdding, IsEnding};
-ghost use Rattle.clause_tidy.specs.Telling.{IsStep, IsTellable};
+ghost use Rattle.clause_tidy.specs.Steps.{shortening, strengthening};
+ghost use Rattle.clause_tidy.specs.Telling.{IsStep, IsTellable, TellsIn, as_events};
 
 use crate::integers::integers;
 use crate::steps::{chained, deletion};
@@ -44,6 +44,7 @@ pub(crate) fn without(alloc: Global, lits: &[Lit], lit: Lit) -> Result<Vec<Lit>,
 /// One id as a hint.
 fn hint(alloc: Global, id: u64) -> Result<IntList, AllocError>
     requires { IsStepId id }
+    ensures { IfOk result (λ hints. hints ≡ pos id ∷ []) }
 {
     let mut hints = Vec::with_capacity(alloc, 1)?;
     hints.push(id as i64)?;
@@ -54,6 +55,7 @@ fn hint(alloc: Global, id: u64) -> Result<IntList, AllocError>
 fn hints(alloc: Global, first: u64, second: u64) -> Result<IntList, AllocError>
     requires first { IsStepId first }
     requires second { IsStepId second }
+    ensures { IfOk result (λ hints. hints ≡ pos first ∷ pos second ∷ []) }
 {
     let mut hints = Vec::with_capacity(alloc, 2)?;
     hints.push(first as i64)?;
@@ -82,7 +84,7 @@ pub(crate) fn shortening_steps(
     requires spare { IsStepId spare }
     requires by { IsStepId by }
     requires id { IsStepId id }
-    ensures steps { IfOk result (λ s. IsShortening spare id (integers_of rest.now) s.items) }
+    ensures steps { IfOk result (λ s. s.items ≡ shortening spare by id (integers_of rest.now)) }
     ensures texts { IfOk result (λ s. AllByRecursion IsTellable s.items) }
     ensures spells { IfOk result (λ _. literals (integers_of rest.now) ≡ rest.now) }
 {
@@ -105,7 +107,7 @@ pub(crate) fn ending_step(
     requires spare { IsStepId spare }
     requires by { IsStepId by }
     requires id { IsStepId id }
-    ensures { IfOk result (λ s. IsAdding spare (integers_of rest.now) s × IsTellable s) }
+    ensures { IfOk result (IsStep (strengthening spare by id (integers_of rest.now))) }
 {
     let hints = hints(alloc, by, id)?;
     added(alloc, spare, rest, hints)
@@ -124,7 +126,7 @@ impl Tidier<'_> {
         requires by { IsStepId by }
         requires id { IsStepId id }
         requires going { L.has_failed log.old ≡ false }
-        ensures { TellsSuch L.Sink (IsShortening self.now.spare id (integers_of rest.now)) log.old result log.new }
+        ensures { TellsIn L.Sink (as_events (shortening self.now.spare by id (integers_of rest.now))) log.old result log.new }
     {
         match shortening_steps(self.alloc, self.spare, by, id, rest) {
             Ok(steps) => tell_all(log, steps),
@@ -144,7 +146,7 @@ impl Tidier<'_> {
         requires by { IsStepId by }
         requires id { IsStepId id }
         requires going { L.has_failed log.old ≡ false }
-        ensures { TellsSuch L.Sink (IsEnding self.now.spare (integers_of rest.now)) log.old result log.new }
+        ensures { TellsIn L.Sink (Step (strengthening self.now.spare by id (integers_of rest.now)) ∷ []) log.old result log.new }
     {
         match ending_step(self.alloc, self.spare, by, id, rest) {
             Ok(step) => tell_one(log, step),

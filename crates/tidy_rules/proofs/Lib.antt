@@ -1,2 +1,4 @@
 pub mod PartLaws
 pub mod RelationLaws
+pub mod InsideLaws
+pub mod OneLaws

@@ -1,9 +1,9 @@
 use Rattle.std.proofs.Common.{◌∙◌, sym, ap, subst, ℕ, [], ◌∷◌, ◌++◌, Some, false, Ok, Err}
 use Rattle.cx_base.specs.Integers.{integers_of}
-use Rattle.clause_arena.specs.Clauses.{ArenaState, Stored}
+use Rattle.clause_arena.specs.Clauses.{ArenaState, Stored, id_at}
 use Rattle.clause_tidy.specs.Agreeing.{IsStepId}
-use Rattle.clause_tidy.specs.Answers.{TellsSuch}
-use Rattle.clause_tidy.specs.Steps.{IsShortening}
+use Rattle.clause_tidy.specs.Steps.{shortening}
+use Rattle.clause_tidy.specs.Telling.{TellsIn, as_events}
 use Rattle.clause_tidy.specs.Tidying.{Tidies}
 use Rattle.clause_tidy.proofs.WeightLaws.{less_shorter}
 use Rattle.clause_tidy.proofs.Dropping.{no_answer}
@@ -27,7 +27,8 @@ pub returns-in-Err-tell_shortening-clause-tidies : goal.returns-in-Err-tell_shor
 returns-in-Err-tell_shortening-clause-tidies g c =
     shorter_told c.args.self.now.formula.now c.args.self.now.spare c.args.arena.now c.args.pair.now.part c.args.pair.now.whole c.requires.live.whole c.requires.live.part c.args.rest.now c.requires.shorter c.requires.may.proper g.L.Sink c.args.log.now c.tell_shortening.new.log (Err c.in-Err-tell_shortening.fault)
     c.add.new.self 0 c.requires.goes_on (λ t e. no_answer c.in-Err-tell_shortening.fault t e)
-    (subst (λ n. TellsSuch {T = Unit {0}} g.L.Sink (IsShortening c.args.self.now.spare n (integers_of c.args.rest.now)) c.args.log.now (Err c.in-Err-tell_shortening.fault) c.tell_shortening.new.log) c.id-id.ensures c.in-Err-tell_shortening.ensures)
+    (subst (λ k. TellsIn {T = Unit {0}} g.L.Sink (as_events (shortening c.args.self.now.spare k (id_at c.args.arena.now c.args.pair.now.whole) (integers_of c.args.rest.now))) c.args.log.now (Err c.in-Err-tell_shortening.fault) c.tell_shortening.new.log) c.id-by.ensures
+    (subst (λ n. TellsIn {T = Unit {0}} g.L.Sink (as_events (shortening c.args.self.now.spare c.id-by.result n (integers_of c.args.rest.now))) c.args.log.now (Err c.in-Err-tell_shortening.fault) c.tell_shortening.new.log) c.id-id.ensures c.in-Err-tell_shortening.ensures))
 
 pub returns-in-Ok-tell_shortening-clause-tidies : goal.returns-in-Ok-tell_shortening-clause-tidies
 returns-in-Ok-tell_shortening-clause-tidies g c =
@@ -36,7 +37,8 @@ returns-in-Ok-tell_shortening-clause-tidies g c =
     shorter_told c.args.self.now.formula.now c.args.self.now.spare a c.args.pair.now.part c.args.pair.now.whole c.requires.live.whole c.requires.live.part c.args.rest.now c.requires.shorter c.requires.may.proper g.L.Sink c.args.log.now c.tell_shortening.new.log (Ok tt)
     c.remove.new.self c.lbd-lbd.result c.requires.goes_on
     (λ t e. grown_then_removed a c.add.new.self c.remove.new.self c.args.pair.now.whole _ c.requires.live.whole added (ap (λ (x : ArenaState). x.clauses) c.remove.ensures))
-    (subst (λ n. TellsSuch {T = Unit {0}} g.L.Sink (IsShortening c.args.self.now.spare n (integers_of c.args.rest.now)) c.args.log.now (Ok tt) c.tell_shortening.new.log) c.id-id.ensures c.in-Ok-tell_shortening.ensures)
+    (subst (λ k. TellsIn {T = Unit {0}} g.L.Sink (as_events (shortening c.args.self.now.spare k (id_at a c.args.pair.now.whole) (integers_of c.args.rest.now))) c.args.log.now (Ok tt) c.tell_shortening.new.log) c.id-by.ensures
+    (subst (λ n. TellsIn {T = Unit {0}} g.L.Sink (as_events (shortening c.args.self.now.spare c.id-by.result n (integers_of c.args.rest.now))) c.args.log.now (Ok tt) c.tell_shortening.new.log) c.id-id.ensures c.in-Ok-tell_shortening.ensures))
 
 pub returns-in-Ok-tell_shortening-clause-less : goal.returns-in-Ok-tell_shortening-clause-less
 returns-in-Ok-tell_shortening-clause-less g c =
