@@ -13,6 +13,7 @@ use Rattle.cx_trail.specs.declared.entry.Reason.{Reason}
 use Rattle.cx_trail.specs.declared.entry.Reason.TheVariants as reason
 use Rattle.cx_trail.specs.Sequence.{TrailState, entry_at, IsTrail as IsCodeTrail, IsTrueIn, IsAssignedIn, IsOpenIn}
 use Rattle.cx_trail.specs.Renaming.{renamed, renamed_reason, clause_under}
+use Rattle.cx_semantics.specs.Chain.{is_inside}
 use Rattle.clause_arena.specs.Clauses.{ArenaState, IsLive, literals_at, literals_in, id_at, id_in, learned_in}
 use Rattle.clause_arena.specs.Compact.{IsRenamed}
 use Rattle.clause_arena.proofs.PackingLaws.{live_within}
@@ -26,7 +27,8 @@ use Rattle.search_steps.specs.Search.{Search}
 use Rattle.search_steps.specs.Tied.{IsTied}
 use Rattle.cx_semantics.specs.Tables.{Table}
 use Rattle.cdcl_search.specs.declared.state.SearchState.{SearchState}
-use Rattle.cdcl_search.specs.Ties.{Ties, SearchStands, IsClauseReasonOf, IsWatched, ClauseTies, IsKept, IsNamedBy, IsHeld, HasTwo, AreUnits, HasReasonOf, ReasonTies, AgreesUpTo}
+use Rattle.tidy_rules.specs.Tidied.{HasTwo}
+use Rattle.cdcl_search.specs.Ties.{Ties, SearchStands, IsClauseReasonOf, IsWatched, ClauseTies, IsKept, IsNamedBy, IsHeld, NeedsNoLearned, AreUnits, HasReasonOf, ReasonTies, AgreesUpTo}
 use Rattle.cdcl_core.specs.Compacting.{IsCompacted, StandsStill, LeavesNoOldName}
 
 -- ---- the trail
@@ -102,6 +104,13 @@ module _ (a b : ArenaState) (moves : List Move) (f : IsRenamed a b moves) where
       inl (w.0, ap is_some w.2 ∙ live, ap id_in w.2 ∙ id)
   held_moved fixed n clause (inr more) = inr more
 
+  needs_moved : (fixed : List Literal) (clause : List Literal) → NeedsNoLearned a fixed clause → NeedsNoLearned b fixed clause
+  needs_moved fixed clause (inl both) = inl both
+  needs_moved fixed clause (inr (inl t)) = inr (inl t)
+  needs_moved fixed clause (inr (inr (r, live, original, inside))) =
+      let w = f.kept r live in
+      inr (inr (w.0, ap is_some w.2 ∙ live, ap learned_in w.2 ∙ original, ap (λ o. is_inside (literals_in o) clause) w.2 ∙ inside))
+
   apart_moved : ((r q : ℕ) → IsLive a r → IsLive a q → id_at a r ≡ id_at a q → r ≡ q) → (s t : ℕ) → IsLive b s → IsLive b t → id_at b s ≡ id_at b t → s ≡ t
   apart_moved apart s t s_live t_live same =
       let v = before s s_live in
@@ -116,6 +125,7 @@ module _ (a b : ArenaState) (moves : List Move) (f : IsRenamed a b moves) where
     stored = stored_moved formula table next t.stored;
     covered = λ n clause low is. held_moved fixed n clause (t.covered n clause low is);
     apart = apart_moved t.apart;
+    original = λ clause is. needs_moved fixed clause (t.original clause is);
   }
 
   -- ---- the reasons

@@ -1,15 +1,16 @@
 -- A learned clause is entered: a clause of several literals, and one of a single literal.
-use Rattle.std.proofs.Common.{◌≡◌, refl, sym, ap, ◌∙◌, subst, ℕ, zero, suc, ◌+◌, ◌-◌, ◌<◌, ℤ, true, false, cond, nat_eq, nat_le, nat_lt, is_some, List, [], ◌∷◌, ◌++◌, length, take, get_or, Some, None, ◌⊎◌, inl, inr, arith, length-append, Contains}
+use Rattle.std.proofs.Common.{◌≡◌, refl, sym, ap, ◌∙◌, subst, ℕ, zero, suc, ◌+◌, ◌-◌, ◌<◌, ℤ, true, cond, nat_eq, nat_le, nat_lt, is_some, List, [], ◌∷◌, ◌++◌, length, take, get_or, Some, None, ◌⊎◌, inl, inr, arith, length-append, Contains}
 use Rattle.std.proofs.lemmas.Bool.{eqb-false, ltb-true, ltb-false, and_from}
 use Rattle.cx_base.specs.Literals.{Literal}
 use Rattle.cx_base.specs.Problem.{Problem, clauses_of}
-use Rattle.cx_semantics.specs.Chain.{has_literal, same_literals}
+use Rattle.cx_semantics.specs.Chain.{has_literal, is_inside, same_literals}
+use Rattle.cx_semantics.specs.Settled.{IsClauseOf}
 use Rattle.cx_base.specs.Integers.{integers_of}
 use Rattle.cx_semantics.specs.Tables.{get}
 use Rattle.cx_trail.specs.declared.entry.Reason.{Reason}
 use Rattle.cx_trail.specs.declared.entry.Reason.TheVariants as why
 use Rattle.cx_trail.specs.Sequence.{TakesBack, entry_at}
-use Rattle.clause_arena.specs.Clauses.{Stored, IsLive, clause_at, literals_in, literals_at, id_in, id_at, learned_in}
+use Rattle.clause_arena.specs.Clauses.{Stored, IsLive, clause_at, literals_in, literals_at, id_in, id_at, learned_at, learned_in}
 use Rattle.watch_lists.specs.Truths.{AreOthersFalse}
 use Rattle.watch_lists.specs.Watching.{IsAttached}
 use Rattle.search_policy.specs.Standing.{OrderState, AllStand}
@@ -23,11 +24,13 @@ use Rattle.cdcl_search.proofs.UnitTies.{on_last}
 use Rattle.cdcl_search.proofs.Growing.{watched_grows}
 use Rattle.cx_semantics.proofs.Closure.{inside_itself}
 use Rattle.cx_semantics.proofs.Members.{has_at_head}
-use Rattle.std.specs.Prelude.{IsTrue}
+use Rattle.std.specs.Prelude.{IsTrue, IsFalse}
 use Rattle.cdcl_search.specs.declared.state.SearchState.{SearchState}
 use Rattle.cdcl_search.specs.Ties.{IsNamedBy, AreUnits, RestOnUnits, HasReasonOf, HaveReasons, Ties}
 use Rattle.cdcl_search.proofs.Places.{tied_length}
-use Rattle.cdcl_search.specs.Ties.{IsKept, IsClauseReasonOf, IsHeld, IsWatched, HasTwo}
+use Rattle.tidy_rules.specs.Tidied.{HasTwo}
+use Rattle.tidy_rules.proofs.OneLaws.{not_two}
+use Rattle.cdcl_search.specs.Ties.{IsKept, IsClauseReasonOf, IsHeld, NeedsNoLearned, IsWatched}
 use Rattle.cdcl_core.specs.Entering.{EntersUnit, EntersClause, HasCounts}
 use Rattle.cdcl_core.specs.Learning.{IsTaught}
 use Rattle.cdcl_core.proofs.Entering.{trail_is, get_new, named_then, was}
@@ -111,8 +114,17 @@ module _ (formula : Problem) (c : SearchState) (e : State) (lits : List Literal)
       | inr old ↦ elim (t1.clauses.covered m clause (let less = old.0 in let next = counts.next in omega (arith, less, next)) old.1) [
         | inl (r, r_live, id) ↦ inl (r, ap is_some (clause_kept r r_live) ∙ r_live, ap id_in (clause_kept r r_live) ∙ id)
         | inr (inl taut) ↦ inr (inl taut)
-        | inr (inr held_one) ↦ inr (inr (true_then clause held_one))
+        | inr (inr (one, t)) ↦ inr (inr (one, true_then clause t))
       ]
+    ]
+
+    original_then : (clause : List Literal) → IsClauseOf formula clause → NeedsNoLearned D.arena (held 0 after.trail) clause
+    original_then clause is = elim (t1.clauses.original clause is) [
+      | inl both ↦ inl both
+      | inr (inl t) ↦ inr (inl (true_then clause t))
+      | inr (inr (r, r_live, original, inside)) ↦
+          let same = clause_kept r r_live in
+          inr (inr (r, ap is_some same ∙ r_live, ap learned_in same ∙ original, ap (λ x. is_inside (literals_in x) clause) same ∙ inside))
     ]
 
     old_id : (r : ℕ) → IsLive c1.arena r → id_at D.arena r < c.next
@@ -197,7 +209,7 @@ module _ (formula : Problem) (c : SearchState) (e : State) (lits : List Literal)
         ]
 
     pub clause_ties : HasTwo lits → AreOthersFalse c1.trail.entries lits l → Ties formula D e1 [] after
-    clause_ties two others = ties_entered formula c e lits back s taught hints c1 e1 t1 takes o stands D reason counts enters.put (record { stored = stored_then two; covered = covered_then; apart = apart_then }) units_then (reasons_then others) (let count = ap length enters.units in omega (arith, count))
+    clause_ties two others = ties_entered formula c e lits back s taught hints c1 e1 t1 takes o stands D reason counts enters.put (record { stored = stored_then two; covered = covered_then; apart = apart_then; original = original_then }) units_then (reasons_then others) (let count = ap length enters.units in omega (arith, count))
 
   -- ---- one literal
   module _ (one : length lits ≡ 1) (none_above : back ≡ 0) (all_units : length c1.units.items ≡ length c1.trail.entries)
@@ -234,12 +246,24 @@ module _ (formula : Problem) (c : SearchState) (e : State) (lits : List Literal)
 
     unit_covered : (m : ℕ) (clause : List Literal) → m < c.next + 1 → get after.moment.tables.clauses m ≡ Some clause → IsHeld D.arena (held 0 after.trail) m clause
     unit_covered m clause low live = elim (was formula c e lits back s taught hints m clause low live) [
-      | inl is ↦ inr (inr (record { l = taught.first; has_it = ap (λ xs. has_literal xs taught.first) (is.0 ∙ single) ∙ has_at_head taught.first []; is_held = held_now }))
+      | inl is ↦
+          let alone : clause ≡ taught.first ∷ [] = is.0 ∙ single in
+          inr (inr (
+            not_two taught.first clause (subst (λ xs. same_literals (taught.first ∷ []) xs ≡ true) (sym alone) (same_itself (taught.first ∷ []))),
+            record { l = taught.first; has_it = ap (λ xs. has_literal xs taught.first) alone ∙ has_at_head taught.first []; is_held = held_now },
+          ))
       | inr old ↦ elim (t1.clauses.covered m clause (let less = old.0 in let next = counts.next in omega (arith, less, next)) old.1) [
         | inl (r, r_live, id) ↦ inl (r, subst (λ a. IsLive a r) (sym enters.arena) r_live, ap (λ a. id_at a r) enters.arena ∙ id)
         | inr (inl taut) ↦ inr (inl taut)
-        | inr (inr held_one) ↦ inr (inr (true_then clause held_one))
+        | inr (inr (one, t)) ↦ inr (inr (one, true_then clause t))
       ]
+    ]
+
+    unit_original : (clause : List Literal) → IsClauseOf formula clause → NeedsNoLearned D.arena (held 0 after.trail) clause
+    unit_original clause is = elim (t1.clauses.original clause is) [
+      | inl both ↦ inl both
+      | inr (inl t) ↦ inr (inl (true_then clause t))
+      | inr (inr stored) ↦ inr (inr (subst (λ a. (r : ℕ) × IsLive a r × IsFalse (learned_at a r) × IsTrue (is_inside (literals_at a r) clause)) (sym enters.arena) stored))
     ]
 
     units_long : length D.units.items ≡ length c1.units.items + 1
@@ -301,7 +325,7 @@ module _ (formula : Problem) (c : SearchState) (e : State) (lits : List Literal)
 
     pub unit_ties : Ties formula D e1 [] after
     unit_ties =
-        ties_entered formula c e lits back s taught hints c1 e1 t1 takes o stands D why.Decision counts enters.put (record { stored = unit_stored; covered = unit_covered; apart = unit_apart }) unit_units
+        ties_entered formula c e lits back s taught hints c1 e1 t1 takes o stands D why.Decision counts enters.put (record { stored = unit_stored; covered = unit_covered; apart = unit_apart; original = unit_original }) unit_units
         (λ i far h. absurd (let long = units_long in let trail_long = length_D formula c e lits back s taught hints c1 e1 t1 takes o stands D why.Decision counts enters.put in let a = all_units in omega (arith, far, h, long, trail_long, a)))
         (let long = units_long in omega (arith, long))
 

@@ -110,17 +110,17 @@ module _ (formula : Problem) (c : SearchState) (e : State) (lits : List Literal)
   pub parities_then : after.moment.tables.parities ≡ s.moment.tables.parities
   parities_then = deleted_parities (after_learned s n zs hints back) s.moment.new_clauses
 
-  temporary : AreTemporary formula (after_learned s n zs hints back) s.moment.new_clauses
+  temporary : AreTemporary (after_learned s n zs hints back) s.moment.new_clauses
   temporary = row_ids_are_temporary formula (first_row_id c.next) (c.next + 1) (first_row_id c.next + length taught.rows) (after_learned s n zs hints back)
       (clause_ranged formula (first_row_id c.next) c.next (first_row_id c.next + length taught.rows) (marked s) (mark_ranged formula (first_row_id c.next) c.next (first_row_id c.next + length taught.rows) s taught.ties.log.ranged) n zs hints (omega arith) (omega arith))
       s.moment.new_clauses taught.ties.log.ranged.new_rows
 
   -- the clause is one of the learned ones, and the mark ends a stretch
   pub learned_then : after.moment.learned ≡ c.next ∷ s.moment.learned
-  learned_then = temporary_learned formula (after_learned s n zs hints back) s.moment.new_clauses temporary
+  learned_then = temporary_learned (after_learned s n zs hints back) s.moment.new_clauses temporary
 
   pub stretches_then : stretches after.moment ≡ stretches s.moment
-  stretches_then = temporary_stretches formula (after_learned s n zs hints back) s.moment.new_clauses temporary
+  stretches_then = temporary_stretches (after_learned s n zs hints back) s.moment.new_clauses temporary
 
   pub conflicts_then : after.conflicts ≡ c.conflicts + 1
   conflicts_then = deleted_conflicts (after_learned s n zs hints back) s.moment.new_clauses ∙ ap (λ k. k + 1) taught.ties.counts.marked

@@ -29,7 +29,7 @@ use Rattle.cdcl_core.specs.declared.filling.Single.{Single}
 use Rattle.cdcl_core.specs.declared.filling.Filled.{Filled}
 use Rattle.cdcl_core.specs.Clauses.{AreDifferent}
 use Rattle.cdcl_core.specs.Filling.{IsEmpty, clause_number, IsUnitClause, IsClauseTaken, IsFilledUpTo, IsTakenAt, IsNext, Attaches}
-use Rattle.cdcl_search.specs.Ties.{HasTwo}
+use Rattle.tidy_rules.specs.Tidied.{HasTwo}
 use Rattle.cdcl_core.proofs.Entered.{kept_at, new_at, old_or_new}
 use Rattle.cdcl_core.proofs.OriginalLaws.{few_clauses}
 

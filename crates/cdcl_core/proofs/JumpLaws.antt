@@ -29,7 +29,8 @@ use Rattle.std.proofs.lemmas.List.{length-map, get_or-map}
 use Rattle.conflict_learn.specs.Levels.{second, levels_at}
 use Rattle.conflict_learn.proofs.ChainOfResolutions.{by_cases}
 use Rattle.cdcl_search.specs.declared.state.SearchState.{SearchState}
-use Rattle.cdcl_search.specs.Ties.{Ties, IsWatched, IsFallingFrom, HasTwo}
+use Rattle.tidy_rules.specs.Tidied.{HasTwo}
+use Rattle.cdcl_search.specs.Ties.{Ties, IsWatched, IsFallingFrom}
 use Rattle.cdcl_core.specs.Entering.{EntersUnit, EntersClause}
 use Rattle.cdcl_core.specs.Learning.{IsTaught}
 use Rattle.cdcl_core.proofs.Entering.{within}

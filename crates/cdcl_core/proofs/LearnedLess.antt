@@ -1,9 +1,9 @@
 -- One learned clause less: in the arena, in the log, and in the search.
 use Rattle.std.proofs.Common.{◌≡◌, ◌≢◌, refl, sym, ap, ◌∙◌, subst, ℕ, zero, suc, ◌+◌, ◌-◌, ◌*◌, ◌<◌, ◌≤◌, Bool, true, false, true≢false, not, cond, nat_eq, eqb-true, List, [], ◌∷◌, length, get_or, Option, Some, None, Contains, inl, inr, arith}
-use Rattle.std.specs.Prelude.{IsSome, IsTrue, slice_set, if◌then◌else◌}
+use Rattle.std.specs.Prelude.{IsSome, IsTrue, IsFalse, slice_set, if◌then◌else◌}
 use Rattle.std.proofs.lemmas.List.{get_or-set_other}
 use Rattle.std.proofs.lemmas.List.FromFn.{length-range_with_len}
-use Rattle.std.proofs.lemmas.Bool.{and_parts}
+use Rattle.std.proofs.lemmas.Bool.{and_parts, and_from}
 use Rattle.std.specs.FinMap as map_
 use Rattle.cx_base.specs.Literals.{Literal}
 use Rattle.cx_base.specs.Problem.{Problem, clauses_of}
@@ -12,6 +12,7 @@ use Rattle.cx_base.specs.declared.steps.LogEvent.{LogEvent}
 use Rattle.cx_base.specs.declared.steps.LogEvent.TheVariants.{Step}
 use Rattle.cx_semantics.specs.Chain.{has_literal, is_inside}
 use Rattle.cx_semantics.specs.Marked.{Moment, without}
+use Rattle.cx_semantics.specs.Settled.{IsClauseOf}
 use Rattle.cx_semantics.specs.Tables.{get}
 use Rattle.cx_semantics.proofs.Closure.{has_by_inside}
 use Rattle.cx_trail.specs.Sequence.{entry_at}
@@ -21,15 +22,20 @@ use Rattle.watch_lists.specs.Detaching.{IsDetached}
 use Rattle.watch_lists.proofs.DetachLaws.{detached_fits}
 use Rattle.conflict_learn.proofs.ChainOfResolutions.{by_cases}
 use Rattle.parity_engine.specs.State.{State}
-use Rattle.search_steps.specs.Trail.{Entry, by_clause, held}
+use Rattle.tidy_rules.proofs.InsideLaws.{inside_through}
+use Rattle.search_steps.specs.Covers.{IsCover, IsSpared, rows_in}
+use Rattle.search_steps.specs.Quiet.{HasTrue}
+use Rattle.search_steps.specs.Trail.{Entry, by_clause, held, all_held}
 use Rattle.search_steps.specs.LogSteps.{IsNoReason}
 use Rattle.search_steps.specs.Search.{Search, IsSearch, told}
 use Rattle.search_steps.specs.Schedule.{IsInReduction, IsRestart}
 use Rattle.search_steps.specs.Size.{additions}
 use Rattle.search_steps.proofs.ScheduleLaws.{moment_is, reduction_may_begin, reduction_goes_on}
 use Rattle.search_steps.proofs.LogLaws.{delete_learned_keeps}
-use Rattle.search_steps.proofs.IdLaws.{deletion_ranged}
+use Rattle.search_steps.proofs.Bridge.{held_is_true}
+use Rattle.search_steps.proofs.IdLaws.{deletion_ranged, low_is_cover}
 use Rattle.search_steps.proofs.SizeLaws.{additions_join}
+use Rattle.search_steps.proofs.TrailLaws.{held_inside}
 use Rattle.search_steps.proofs.Stored.{has_of, of_has}
 use Rattle.cdcl_search.specs.declared.state.SearchState.{SearchState}
 use Rattle.conflict_learn.specs.declared.fault.CoreFault.{CoreFault}
@@ -38,7 +44,8 @@ use Rattle.step_text.specs.declared.sink.Sink as sink
 use Rattle.cdcl_search.specs.Logs.{GoesOn}
 use Rattle.cdcl_search.specs.Tells.{IsLeft, with_events}
 use Rattle.cdcl_search.specs.Ties.{IsNamedBy, first_row_id}
-use Rattle.cdcl_search.specs.Ties.{Ties, SearchStands, IsKept, IsHeld, RestOnUnits, IsFallingFrom, HasTwo}
+use Rattle.tidy_rules.specs.Tidied.{HasTwo}
+use Rattle.cdcl_search.specs.Ties.{Ties, SearchStands, IsKept, IsHeld, NeedsNoLearned, RestOnUnits, IsFallingFrom}
 use Rattle.cdcl_core.specs.Reducing.{SearchLoses, WasWatched}
 use Rattle.cdcl_search.proofs.UnitTies.{falls_lower}
 use Rattle.cdcl_search.proofs.Places.{tied_length}
@@ -135,11 +142,54 @@ module _ (formula : Problem) (c : SearchState) (e : State) (s : Search) (ok : Is
   is_no_reason = no_reason c.units.items n s.trail
       (subst (RestOnUnits c.units.items) (no_newer p.units.newer p.units.older s.trail p.units.parts (p.units.count ∙ all_units ∙ sym (tied_length s.trail c.trail.entries p.trail.follows.tied))) p.units.rest) not_unit
 
+  -- ---- each clause of the formula has another one inside it
+  below : (k : ℕ) → k < c.next → k < first_row_id c.next
+  below k low = omega (arith, low)
+
+  cover : (k : ℕ) (inner clause : List Literal) → k < c.next → get s.moment.tables.clauses k ≡ Some inner → is_inside inner clause ≡ true → IsCover s.moment.tables.clauses (rows_in s.moment) clause k
+  cover k inner clause low live inside = low_is_cover formula (first_row_id c.next) c.next (first_row_id c.next + 0) s p.log.ranged k inner clause (below k low) live inside
+
+  named_inside : (lits clause : List Literal) (k : ℕ) → k < c.next → (named : IsNamedBy s.moment.tables.clauses lits k) → is_inside lits clause ≡ true → IsCover s.moment.tables.clauses (rows_in s.moment) clause k
+  named_inside lits clause k low named inside =
+      cover k named.clause clause low named.live (inside_through named.clause lits clause (and_parts (is_inside lits named.clause) (is_inside named.clause lits) named.same).1 inside)
+
+  by_unit : (clause : List Literal) → HasTrue (held 0 s.trail) clause → (k : ℕ) × (k ≢ n) × IsCover s.moment.tables.clauses (rows_in s.moment) clause k
+  by_unit clause t =
+      let at = held_is_true s.trail c.trail.entries p.trail.follows.tied t.l (has_by_inside (held 0 s.trail) (all_held s.trail) t.l (held_inside 0 s.trail) t.is_held) in
+      let less : at.0 < length c.units.items = (let within = at.1.0 in omega (arith, within, all_units)) in
+      let has : has_literal clause (entry_at c.trail.entries at.0).literal ≡ true = ap (has_literal clause) at.1.1 ∙ t.has_it in (
+        get_or c.units.items at.0 0,
+        not_unit at.0 less,
+        named_inside ((entry_at c.trail.entries at.0).literal ∷ []) clause (get_or c.units.items at.0 0) (p.units.low at.0 less) (p.units.named at.0 less) (and_from (has_literal clause (entry_at c.trail.entries at.0).literal) true has refl),
+      )
+
+  other_learned : (q : ℕ) → IsFalse (learned_at c.arena q) → q ≢ r
+  other_learned q original same = true≢false (sym was_learned ∙ ap (learned_at c.arena) (sym same) ∙ original)
+
+  spared : IsSpared formula s.moment n
+  spared clause is = elim (p.clauses.original clause is) [
+    | inl both ↦ inl both
+    | inr (inl t) ↦ inr (by_unit clause t)
+    | inr (inr (q, q_live, original, inside)) ↦
+        let k = p.clauses.stored q q_live in
+        inr (id_at c.arena q, (λ same. other_learned q original (p.clauses.apart q r q_live live same)), named_inside (literals_at c.arena q) clause (id_at c.arena q) k.low k.named inside)
+  ]
+
+  original_then : (clause : List Literal) → IsClauseOf formula clause → NeedsNoLearned b (held 0 s.trail) clause
+  original_then clause is = elim (p.clauses.original clause is) [
+    | inl both ↦ inl both
+    | inr (inl t) ↦ inr (inl t)
+    | inr (inr (q, q_live, original, inside)) ↦
+        let apart_q = other_learned q original in
+        let same = other_stays c.arena r q apart_q in
+        inr (inr (q, still_live c.arena r q apart_q q_live, ap learned_in same ∙ original, ap (λ o. is_inside (literals_in o) clause) same ∙ inside))
+  ]
+
   left : length s.moment.learned ≤ length (without s.moment.learned n) + 1
   left = one_less c.next s.moment.learned n p.counts.falling
 
   pub is_search_then : IsSearch formula e.parities after
-  is_search_then = delete_learned_keeps formula e.parities s ok n [] (here.late was_learned) is_no_reason
+  is_search_then = delete_learned_keeps formula e.parities s ok n [] spared is_no_reason
       (let many = p.counts.many in let one = left in omega (arith, fresh, enough, many, one)) reducing
 
   kept_then : (q : ℕ) → IsLive b q → IsKept formula after.moment.tables.clauses c.next b q
@@ -194,6 +244,7 @@ module _ (formula : Problem) (c : SearchState) (e : State) (s : Search) (ok : Is
       covered = covered_then;
       apart = λ q k ql kl same. p.clauses.apart q k (was_live c.arena r q ql) (was_live c.arena r k kl)
           (ap id_in (sym (other_stays c.arena r q (is_other c.arena r q ql))) ∙ same ∙ ap id_in (other_stays c.arena r k (is_other c.arena r k kl)));
+      original = original_then;
     };
     trail = p.trail;
     units = record {

@@ -1,7 +1,7 @@
 -- Unit clauses of the formula come onto the trail, one after another, and what holds when none waits.
-use Rattle.std.proofs.Common.{◌≡◌, ◌≢◌, refl, sym, ap, ◌∙◌, subst, ℕ, zero, suc, ◌+◌, ◌<◌, ◌≤◌, nat_lt, true, cond, List, [], ◌∷◌, ◌++◌, length, drop, drop-cons, get_or, Option, Some, None, ◌⊎◌, inl, inr, arith, length-append, true≢false, append-nil}
+use Rattle.std.proofs.Common.{◌≡◌, ◌≢◌, refl, sym, ap, ◌∙◌, subst, ℕ, zero, suc, ◌+◌, ◌-◌, ◌<◌, ◌≤◌, nat_lt, true, cond, List, [], ◌∷◌, ◌++◌, length, drop, drop-cons, get_or, Option, Some, None, ◌⊎◌, inl, inr, arith, length-append, true≢false, append-nil}
 use Rattle.std.proofs.lemmas.Bool.{le-leb, ltb-true, ltb-false, and_parts}
-use Rattle.std.proofs.lemmas.List.{length-replicate, length_push}
+use Rattle.std.proofs.lemmas.List.{length-replicate, length_push, get_or_default}
 use Rattle.std.proofs.Math.ListN.{get_or-append}
 use Rattle.std.proofs.Math.Seq.{get_or-append_seam}
 use Rattle.std.specs.List.{All, AllByRecursion}
@@ -21,10 +21,13 @@ use Rattle.cx_trail.specs.declared.entry.Reason.{Reason}
 use Rattle.cx_trail.specs.Sequence.{TrailState, IsTrail, IsTrueIn, IsFalseIn, IsOpenIn, StandsAt, entry_at, pushed}
 use Rattle.parity_engine.specs.declared.state.Mood.TheVariants.{Busy, Broken}
 use Rattle.parity_engine.specs.State.{State, fresh}
-use Rattle.clause_arena.specs.Clauses.{id_at}
+use Rattle.cx_semantics.specs.Settled.{IsClauseOf}
+use Rattle.clause_arena.specs.Clauses.{literals_at, id_at}
 use Rattle.search_steps.specs.Engine.{HoldsValues}
 use Rattle.cx_semantics.specs.Ids.{highest_id}
 use Rattle.search_steps.specs.Ids.{IsRanged, ReasonsBelow, AreRowIds}
+use Rattle.tidy_rules.specs.Tidied.{HasTwo}
+use Rattle.tidy_rules.proofs.OneLaws.{not_two}
 use Rattle.search_steps.specs.Quiet.{HasTrue}
 use Rattle.search_steps.specs.Search.{Search, IsSearch, forced_on}
 use Rattle.search_steps.specs.Size.{additions}
@@ -37,7 +40,7 @@ use Rattle.search_steps.proofs.IdLaws.{force_ranged, next_is_free}
 use Rattle.conflict_learn.proofs.ChainOfResolutions.{by_cases}
 use Rattle.search_steps.proofs.Sets.{not_both}
 use Rattle.cdcl_search.specs.declared.state.SearchState.{SearchState}
-use Rattle.cdcl_search.specs.Ties.{SearchStands, LogTies, ClauseTies, IsHeld, AreUnits, RestOnUnits, IsFallingFrom, IsFed, IsNamedBy, first_row_id}
+use Rattle.cdcl_search.specs.Ties.{SearchStands, LogTies, ClauseTies, IsHeld, NeedsNoLearned, AreUnits, RestOnUnits, IsFallingFrom, IsFed, IsNamedBy, first_row_id}
 use Rattle.cdcl_search.proofs.Growing.{held_grows, watched_grows, stand_grows}
 use Rattle.cdcl_search.proofs.UnitHints.{unit_hints_are_right}
 use Rattle.cdcl_search.proofs.UnitTies.{on_last}
@@ -163,6 +166,10 @@ module _ (formula : Problem) (engines : List (List Literal)) (c : SearchState) (
   rest = subst (RestOnUnits c.units.items) (no_newer ties.units.newer ties.units.older search.trail ties.units.parts
       (let a = long in let count = ties.units.count in let every = ties.every in omega (arith, a, count, every))) ties.units.rest
 
+  -- it has no other literal
+  alone : ¬ HasTwo clause
+  alone = not_two u.literal clause single.0.same
+
   -- its literal is true already
   true_covers : IsTrueIn c.trail.entries u.literal → HasTrue (held 0 search.trail) clause
   true_covers (i, (less, at)) = record {
@@ -192,7 +199,7 @@ module _ (formula : Problem) (engines : List (List Literal)) (c : SearchState) (
       covered = λ k low high. elim (ties.covered k low high) [
         | inl done ↦ inl done
         | inr waits ↦ elim (still_waits u more k waits) [
-          | inl is ↦ inl (inr (inr (subst (λ j. HasTrue (held 0 search.trail) (clause_number formula j)) (sym is) (true_covers h))))
+          | inl is ↦ inl (inr (inr (subst (λ j. (¬ HasTwo (clause_number formula j)) × HasTrue (held 0 search.trail) (clause_number formula j)) (sym is) (alone, true_covers h))))
           | inr later ↦ inr later
         ]
       ];
@@ -283,7 +290,7 @@ module _ (formula : Problem) (engines : List (List Literal)) (c : SearchState) (
           covered = λ k low high. elim (ties.covered k low high) [
             | inl done ↦ inl (held_grows c.arena k search.trail entry (clause_number formula k) done)
             | inr waits ↦ elim (still_waits u more k waits) [
-              | inl is ↦ inl (inr (inr (subst (λ j. HasTrue (held 0 after.trail) (clause_number formula j)) (sym is) head_covers)))
+              | inl is ↦ inl (inr (inr (subst (λ j. (¬ HasTwo (clause_number formula j)) × HasTrue (held 0 after.trail) (clause_number formula j)) (sym is) (alone, head_covers))))
               | inr later ↦ inr later
             ]
           ];
@@ -443,6 +450,28 @@ module _ (formula : Problem) (engines : List (List Literal)) (c : SearchState) (
     (let next = st.3.next in omega (arith, low, next)),
   )
 
+  needs_of : (k : ℕ) → IsHeld c.arena (held 0 st.0.trail) k (clause_number formula k) → NeedsNoLearned c.arena (held 0 st.0.trail) (clause_number formula k)
+  needs_of k (inl (r, live, id)) =
+      let s = st.3.stored r live in
+      inr (inr (
+        r,
+        live,
+        s.original,
+        ap (λ j. is_inside (literals_at c.arena r) (clause_number formula j)) (sym id)
+            ∙ (and_parts (is_inside (literals_at c.arena r) (clause_number formula (id_at c.arena r))) (is_inside (clause_number formula (id_at c.arena r)) (literals_at c.arena r)) s.same).0,
+      ))
+  needs_of k (inr (inl both)) = inl both
+  needs_of k (inr (inr (one, t))) = inr (inl t)
+
+  original_then : (clause : List Literal) → IsClauseOf formula clause → NeedsNoLearned c.arena (held 0 st.0.trail) clause
+  original_then clause (i, low, is) =
+      let k : (i + 1) - 1 ≡ i = omega arith in
+      let number : clause_number formula (i + 1) ≡ clause = ap (λ j. get_or (clauses_of formula.constraints) j []) k ∙ get_or_default (clauses_of formula.constraints) i [] clause low ∙ is in
+      subst (NeedsNoLearned c.arena (held 0 st.0.trail)) number (elim (st.3.covered (i + 1) (omega arith) (omega (arith, low))) [
+        | inl done ↦ needs_of (i + 1) done
+        | inr waits ↦ absurd (none_waits (i + 1) waits)
+      ])
+
   clauses_then : ClauseTies formula st.0.moment.tables.clauses c.next c.arena (held 0 st.0.trail)
   clauses_then = record {
     stored = λ r live.
@@ -460,6 +489,7 @@ module _ (formula : Problem) (engines : List (List Literal)) (c : SearchState) (
           | inr waits ↦ absurd (none_waits n waits)
         ]);
     apart = st.3.apart;
+    original = original_then;
   }
 
   all_low : (es : List Entry) (entries : List TrailEntry) → IsTied es entries → ((i : ℕ) → i < length entries → (entry_at entries i).level ≤ 0) → AllByRecursion (λ (e : Entry). e.level ≡ 0) es

@@ -9,7 +9,8 @@ use Rattle.clause_arena.specs.Clauses.{ArenaState, IsLive, literals_at, id_at, l
 use Rattle.watch_lists.specs.Watching.{Fits, IsAttached}
 use Rattle.search_policy.specs.Standing.{AllStand}
 use Rattle.cdcl_search.specs.declared.state.SearchState.{SearchState}
-use Rattle.cdcl_search.specs.Ties.{HasTwo, IsWatched}
+use Rattle.tidy_rules.specs.Tidied.{HasTwo}
+use Rattle.cdcl_search.specs.Ties.{IsWatched}
 use Rattle.cdcl_core.specs.declared.filling.Single.{Single}
 use Rattle.cdcl_core.specs.declared.filling.Filled.{Filled}
 use Rattle.cdcl_core.specs.Clauses.{AreDifferent}

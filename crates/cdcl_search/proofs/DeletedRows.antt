@@ -53,10 +53,10 @@ deleted_is_told : (s : Search) (ids : List ℕ) → all_told s (deletions ids) �
 deleted_is_told s [] = refl
 deleted_is_told s (n ∷ ids) = deleted_is_told (told s (Step (Delete n []))) ids
 
-first_temporary : (formula : Problem) (s : Search) (ids : List ℕ) (k : ℕ) → AreTemporary formula s ids → AreTemporary formula s (take k ids)
-first_temporary formula s ids zero t = tt
-first_temporary formula s [] (suc k) t = tt
-first_temporary formula s (n ∷ ids) (suc k) t = (t.0, first_temporary formula s ids k t.1)
+first_temporary : (s : Search) (ids : List ℕ) (k : ℕ) → AreTemporary s ids → AreTemporary s (take k ids)
+first_temporary s ids zero t = tt
+first_temporary s [] (suc k) t = tt
+first_temporary s (n ∷ ids) (suc k) t = (t.0, first_temporary s ids k t.1)
 
 -- ids that are not among the learned ones leave these as they were, and are no reduction
 without_none : (ns : List ℕ) (n : ℕ) → is_among ns n ≡ false → without ns n ≡ ns
@@ -71,15 +71,15 @@ or_none : (b : Bool) → (b || false) ≡ b
 or_none true = refl
 or_none false = refl
 
-pub temporary_learned : (formula : Problem) (s : Search) (ids : List ℕ) → AreTemporary formula s ids → (deleted s ids).moment.learned ≡ s.moment.learned
-temporary_learned formula s [] t = refl
-temporary_learned formula s (n ∷ ids) t = temporary_learned formula (told s (Step (Delete n []))) ids (temporary_still formula s n ids t.1) ∙ without_none s.moment.learned n t.0.1
+pub temporary_learned : (s : Search) (ids : List ℕ) → AreTemporary s ids → (deleted s ids).moment.learned ≡ s.moment.learned
+temporary_learned s [] t = refl
+temporary_learned s (n ∷ ids) t = temporary_learned (told s (Step (Delete n []))) ids (temporary_still s n ids t.1) ∙ without_none s.moment.learned n t.0.1
 
-pub temporary_stretches : (formula : Problem) (s : Search) (ids : List ℕ) → AreTemporary formula s ids → stretches (deleted s ids).moment ≡ stretches s.moment
-temporary_stretches formula s [] t = refl
-temporary_stretches formula s (n ∷ ids) t =
+pub temporary_stretches : (s : Search) (ids : List ℕ) → AreTemporary s ids → stretches (deleted s ids).moment ≡ stretches s.moment
+temporary_stretches s [] t = refl
+temporary_stretches s (n ∷ ids) t =
     let m = s.moment in
-    temporary_stretches formula (told s (Step (Delete n []))) ids (temporary_still formula s n ids t.1)
+    temporary_stretches (told s (Step (Delete n []))) ids (temporary_still s n ids t.1)
     ∙ ap (λ b. if b then m.reductions + 1 else m.reductions) (ap (λ b. m.reduces || (b && not (is_covered_without m.tables.clauses n (clause_at m.tables.clauses n)))) t.0.1 ∙ or_none m.reduces)
 
 -- ---- the ties
@@ -90,7 +90,7 @@ module _ (formula : Problem) (c : SearchState) (e : State) (first : ℕ) (rows :
   abbrev after : Search
   after = deleted s s.moment.new_clauses
 
-  temporary : AreTemporary formula s ids
+  temporary : AreTemporary s ids
   temporary = row_ids_are_temporary formula first c.next (first + length rows) s t.log.ranged ids t.log.ranged.new_rows
 
   none_new : after.moment.new_clauses ≡ []
@@ -138,16 +138,16 @@ module _ (formula : Problem) (c : SearchState) (e : State) (first : ℕ) (rows :
     reasons = t.reasons;
     counts = record {
       marked = deleted_conflicts s ids ∙ t.counts.marked;
-      falling = subst (IsFallingFrom c.next) (sym (temporary_learned formula s ids temporary)) t.counts.falling;
-      many = subst (λ ns. c.learned ≤ length ns) (sym (temporary_learned formula s ids temporary)) t.counts.many;
-      few = subst (λ n. n ≤ c.reductions) (sym (temporary_stretches formula s ids temporary)) t.counts.few;
+      falling = subst (IsFallingFrom c.next) (sym (temporary_learned s ids temporary)) t.counts.falling;
+      many = subst (λ ns. c.learned ≤ length ns) (sym (temporary_learned s ids temporary)) t.counts.many;
+      few = subst (λ n. n ≤ c.reductions) (sym (temporary_stretches s ids temporary)) t.counts.few;
     };
     ids = t.ids;
     levels = deleted_levels s ids ∙ t.levels ∙ ap level_of (sym (deleted_trail s ids));
   }
 
   is_search_then : (k : ℕ) → IsSearch formula e.parities (deleted s (take k ids))
-  is_search_then k = deleted_keeps formula e.parities s ok (take k ids) (first_temporary formula s ids k temporary)
+  is_search_then k = deleted_keeps formula e.parities s ok (take k ids) (first_temporary s ids k temporary)
 
   told_then : (old : Option (List LogEvent)) → AreTold old s.events → (some : List ℕ) → AreTold (with_events (deletions some) old) (deleted s some).events
   told_then old a some = subst (λ (u : Search). AreTold (with_events (deletions some) old) u.events) (deleted_is_told s some) (all_told_are (deletions some) s old a)

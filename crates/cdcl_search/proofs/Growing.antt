@@ -24,7 +24,7 @@ use Rattle.conflict_learn.proofs.ChainOfResolutions.{by_cases}
 use Rattle.search_steps.proofs.Bridge.{entry_last, entry_before, put_held}
 use Rattle.cdcl_search.specs.declared.state.SearchState.{SearchState}
 use Rattle.cdcl_search.proofs.Alike.{served_alike}
-use Rattle.cdcl_search.specs.Ties.{Ties, first_row_id, IsNamedBy, IsHeld, ClauseTies, IsWatched, AreUnits, IsRowReasonAt, HasReasonOf, HaveReasons, IsFed}
+use Rattle.cdcl_search.specs.Ties.{Ties, first_row_id, IsNamedBy, IsHeld, NeedsNoLearned, ClauseTies, IsWatched, AreUnits, IsRowReasonAt, HasReasonOf, HaveReasons, IsFed}
 
 abbrev pub put : SearchState → ℕ → Literal → Reason → SearchState
 put c level l why = record c { trail = pushed c.trail level l why }
@@ -33,13 +33,19 @@ put c level l why = record c { trail = pushed c.trail level l why }
 pub held_grows : (arena : ArenaState) (n : ℕ) (es : List Entry) (y : Entry) (clause : List Literal) → IsHeld arena (held 0 es) n clause → IsHeld arena (held 0 (y ∷ es)) n clause
 held_grows arena n es y clause (inl stored) = inl stored
 held_grows arena n es y clause (inr (inl both)) = inr (inl both)
-held_grows arena n es y clause (inr (inr t)) = inr (inr (record { l = t.l; has_it = t.has_it; is_held = put_held 0 y es t.l t.is_held }))
+held_grows arena n es y clause (inr (inr (one, t))) = inr (inr (one, record { l = t.l; has_it = t.has_it; is_held = put_held 0 y es t.l t.is_held }))
+
+needs_none_still : (arena : ArenaState) (es : List Entry) (y : Entry) (clause : List Literal) → NeedsNoLearned arena (held 0 es) clause → NeedsNoLearned arena (held 0 (y ∷ es)) clause
+needs_none_still arena es y clause (inl both) = inl both
+needs_none_still arena es y clause (inr (inl t)) = inr (inl (record { l = t.l; has_it = t.has_it; is_held = put_held 0 y es t.l t.is_held }))
+needs_none_still arena es y clause (inr (inr stored)) = inr (inr stored)
 
 pub clauses_grow : (formula : Problem) (table : Table) (next : ℕ) (arena : ArenaState) (es : List Entry) (y : Entry) → ClauseTies formula table next arena (held 0 es) → ClauseTies formula table next arena (held 0 (y ∷ es))
 clauses_grow formula table next arena es y a = record {
   stored = a.stored;
   covered = λ n clause low live. held_grows arena n es y clause (a.covered n clause low live);
   apart = a.apart;
+  original = λ clause is. needs_none_still arena es y clause (a.original clause is);
 }
 
 -- ---- the engine

@@ -55,7 +55,7 @@ module _ (formula : Problem) (c : SearchState) (e : State) (s : Search) (ok : Is
     where
       one_beside : (lits : List Literal) → is_tautology lits ≡ true → (l : Literal) × (has_literal lits l ≡ true) × (has_literal lits (negate l) ≡ true)
       one_beside lits both = some_literal (λ l. has_literal lits (negate l)) lits both
-  held_rests quiet n clause is (inr (inr h)) = true_rests (all_held s.trail) clause clash
+  held_rests quiet n clause is (inr (inr (one, h))) = true_rests (all_held s.trail) clause clash
       (record { l = h.l; has_it = h.has_it; is_held = has_by_inside (held 0 s.trail) (all_held s.trail) h.l (held_inside 0 s.trail) h.is_held })
 
   -- with no clause of a row told since the last mark, the ids from the next one on are free

@@ -41,8 +41,9 @@ use Rattle.conflict_learn.proofs.ChainOfResolutions.{by_cases}
 use Rattle.search_steps.proofs.StartLaws.{variables_are_within}
 use Rattle.search_steps.proofs.UnitLaws.{held_same, level_same}
 use Rattle.search_steps.proofs.UnitSteps.{unit_rests_keeps}
+use Rattle.tidy_rules.proofs.OneLaws.{not_two}
 use Rattle.cdcl_search.specs.declared.state.SearchState.{SearchState}
-use Rattle.cdcl_search.specs.Ties.{Ties, TiesFrom, IsNamedBy, IsHeld, ClauseTies, AreRows, AreUnits, RestOnUnits, IsFallingFrom, IsFed, HaveReasons, first_row_id, row_ids}
+use Rattle.cdcl_search.specs.Ties.{Ties, TiesFrom, IsNamedBy, IsHeld, NeedsNoLearned, ClauseTies, AreRows, AreUnits, RestOnUnits, IsFallingFrom, IsFed, HaveReasons, first_row_id, row_ids}
 use Rattle.cdcl_search.proofs.Places.{tied_length, older_level}
 use Rattle.cdcl_search.proofs.TableLaws.{put_same, put_other, no_clause}
 
@@ -259,11 +260,12 @@ module _ (formula : Problem) (c : SearchState) (e : State) (rows : List (List Li
 
     covered_then : (m : ℕ) (x : List Literal) → m < next → get table m ≡ Some x → IsHeld c.arena (held 0 after.trail) m x
     covered_then m x low is = by_cases (nat_eq m n)
-        (λ q. inr (inr (record {
-          l = l;
-          has_it = ap (λ ls. has_literal ls l) (one_of (sym is ∙ ap (get table) (Rattle.std.proofs.Common.eqb-true m n q) ∙ put_here)) ∙ has_at_head l [];
-          is_held = held_now;
-        })))
+        (λ q.
+        let alone = one_of (sym is ∙ ap (get table) (Rattle.std.proofs.Common.eqb-true m n q) ∙ put_here) in
+        inr (inr (
+          not_two l x (subst (λ ls. same_literals (l ∷ []) ls ≡ true) (sym alone) same_one),
+          record { l = l; has_it = ap (λ ls. has_literal ls l) alone ∙ has_at_head l []; is_held = held_now },
+        )))
         (λ q. held_still c.arena m s.trail after.trail x (still 0) (t.clauses.covered m x (let apart = eqb-false m n q in omega (arith, low, next_is, apart)) (sym (put_other s.moment.tables.clauses n m (literal z ∷ []) (eqb-false m n q)) ∙ is)))
       where
         one_of : Some x ≡ Some (l ∷ []) → x ≡ l ∷ []
@@ -274,6 +276,7 @@ module _ (formula : Problem) (c : SearchState) (e : State) (rows : List (List Li
       stored = λ r is_live. let st = t.clauses.stored r is_live in let low = st.low in record { wide = st.wide; named = named_still _ _ st.named; low = omega (arith, low, next_is); late = st.late };
       covered = covered_then;
       apart = t.clauses.apart;
+      original = λ x is. subst (λ ls. NeedsNoLearned c.arena ls x) (sym (still 0)) (t.clauses.original x is);
     }
 
     longer : length units.items ≡ length c.units.items + 1

@@ -5,12 +5,15 @@ use Rattle.std.specs.FinSet as set
 use Rattle.cx_base.specs.Literals.{Literal, literal_true}
 use Rattle.cx_base.specs.Problem.{Problem, clauses_of}
 use Rattle.cx_base.specs.declared.steps.LogEvent.{LogEvent}
+use Rattle.cx_semantics.specs.Chain.{is_inside}
 use Rattle.cx_semantics.specs.Fresh.{is_tautology}
+use Rattle.cx_semantics.specs.Settled.{IsClauseOf}
 use Rattle.cx_semantics.specs.Tables.{Table, get}
 use Rattle.cx_trail.specs.declared.entry.Entry.{Entry as TrailEntry}
 use Rattle.cx_trail.specs.declared.entry.Reason.{Reason}
 use Rattle.cx_trail.specs.declared.entry.Reason.TheVariants as reason
 use Rattle.cx_trail.specs.Sequence.{TrailState, entry_at, IsTrueIn, IsAssignedIn}
+use Rattle.tidy_rules.specs.Tidied.{HasTwo}
 use Rattle.clause_arena.specs.Clauses.{IsLive, literals_at, id_at, ArenaState, learned_at}
 use Rattle.watch_lists.specs.Truths.{AreOthersFalse}
 use Rattle.watch_lists.specs.Watching.{Fits, IsAttached, WatchState}
@@ -67,14 +70,6 @@ pub record LogTies (formula : Problem) (parities : List (List Literal)) (next fi
   pub served : HasOnlyRowClauses s first (length rows)
 
 -- ---- the clauses
--- the list has two different literals
-pub record HasTwo (lits : List Literal) : Type 0 where
-  pub first : Literal
-  pub second : Literal
-  pub has_first : Contains lits first
-  pub has_second : Contains lits second
-  pub differ : first ≢ second
-
 -- a clause of the arena has two different literals, is the live clause of its id, and has an id above the formula's where it was learned
 pub record IsKept (formula : Problem) (table : Table) (next : ℕ) (arena : ArenaState) (r : ℕ) : Type 0 where
   pub wide : HasTwo (literals_at arena r)
@@ -82,15 +77,20 @@ pub record IsKept (formula : Problem) (table : Table) (next : ℕ) (arena : Aren
   pub low : id_at arena r < next
   pub late : IsTrue (learned_at arena r) → length (clauses_of formula.constraints) < id_at arena r
 
--- a live clause is in the arena under its id, or it has a literal with its negation, or one that level 0 makes true
+-- a live clause is in the arena under its id, or it has a literal with its negation, or it has no two different literals and level 0 makes its one true
 abbrev pub IsHeld : ArenaState → List Literal → ℕ → List Literal → Type 0
-IsHeld arena fixed n clause = ((r : ℕ) × IsLive arena r × (id_at arena r ≡ n)) ⊎ IsTrue (is_tautology clause) ⊎ HasTrue fixed clause
+IsHeld arena fixed n clause = ((r : ℕ) × IsLive arena r × (id_at arena r ≡ n)) ⊎ IsTrue (is_tautology clause) ⊎ ((¬ HasTwo clause) × HasTrue fixed clause)
 
--- the arena holds the live clauses that stay, each under an id of its own; level 0 makes the fixed literals true
+-- It is a tautology, level 0 makes a literal of it true, or a clause of the arena that was not learned lies inside it.
+abbrev pub NeedsNoLearned : ArenaState → List Literal → List Literal → Type 0
+NeedsNoLearned arena fixed clause = IsTrue (is_tautology clause) ⊎ HasTrue fixed clause ⊎ ((r : ℕ) × IsLive arena r × IsFalse (learned_at arena r) × IsTrue (is_inside (literals_at arena r) clause))
+
+-- the arena holds the live clauses that stay, each under an id of its own; no clause of the formula needs a learned one; level 0 makes the fixed literals true
 pub record ClauseTies (formula : Problem) (table : Table) (next : ℕ) (arena : ArenaState) (fixed : List Literal) : Type 0 where
   pub stored : (r : ℕ) → IsLive arena r → IsKept formula table next arena r
   pub covered : (n : ℕ) (clause : List Literal) → n < next → get table n ≡ Some clause → IsHeld arena fixed n clause
   pub apart : (r q : ℕ) → IsLive arena r → IsLive arena q → id_at arena r ≡ id_at arena q → r ≡ q
+  pub original : (clause : List Literal) → IsClauseOf formula clause → NeedsNoLearned arena fixed clause
 
 -- ---- the watches
 -- they fit, and each clause of the arena is attached

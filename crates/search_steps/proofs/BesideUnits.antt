@@ -24,6 +24,9 @@ use Rattle.search_steps.specs.Search.{Search, IsSearch, told}
 use Rattle.search_steps.specs.Tied.{IsLiveOr}
 use Rattle.search_steps.proofs.LogLaws.{IsReached, reached_is_known, step_goes_on}
 use Rattle.search_steps.proofs.ServesLaws.{put_serves}
+use Rattle.search_steps.proofs.CoverLaws.{put_covered}
+use Rattle.search_steps.proofs.PlainLaws.{unlearned_plain}
+use Rattle.search_steps.specs.Covers.{rows_in}
 use Rattle.search_steps.proofs.Sets.{not_both}
 
 -- ---- members
@@ -191,4 +194,6 @@ beside_unit_keeps formula parities s ok level n z hints a hinted goes served c c
           (λ k ys is among. cc)
           hinted;
       serves = put_serves formula parities s.trail s.quiet_levels s.moment.tables n (l ∷ []) a.free (λ k h. absurd (omega (arith, h, level))) ok.serves;
+      covered = put_covered formula s.moment.tables.clauses (rows_in s.moment) n (l ∷ []) a.free ok.covered;
+      plain = unlearned_plain s.moment.tables.clauses n (l ∷ []) s.moment.learned s.moment.awaits served a.free ok.plain;
     }

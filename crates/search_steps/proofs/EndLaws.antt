@@ -20,11 +20,14 @@ use Rattle.cx_semantics.specs.Tables.{Table}
 use Rattle.cx_semantics.proofs.ChainLaws.{true_by_all, literal_true-negate}
 use Rattle.cx_semantics.proofs.Members.{all_by, has_left, has_right}
 use Rattle.search_steps.specs.Laws.{HaveTheirs}
-use Rattle.search_steps.specs.Quiet.{Quiet}
+use Rattle.search_steps.specs.Quiet.{Quiet, RestsOn, IsOfParities}
 use Rattle.search_steps.specs.Recovering.{SettledWithRecovered}
 use Rattle.search_steps.specs.Trail.{all_held}
 use Rattle.search_steps.specs.Search.{Search, IsSearch}
-use Rattle.search_steps.proofs.Sets.{not_both}
+use Rattle.tidy_rules.proofs.InsideLaws.{some_member}
+use Rattle.search_steps.proofs.Sets.{not_both, tautology_rests}
+use Rattle.search_steps.proofs.Stored.{rests_around}
+use Rattle.search_steps.proofs.TrailLaws.{trail_no_clash}
 
 -- ---- a settled formula
 -- what its own parities settle is settled with the recovered ones
@@ -34,13 +37,13 @@ settled_by_its_own formula settled = record { parities = parities_of formula.con
 -- Where both engines are quiet over a settled formula, each variable is decided; so no decision is made, and no conflict above level 0 comes.
 pub settled_is_decided : (formula : Problem) (theirs parities : List (List Literal)) (table : Table) (known : List Literal)
     → ((values : List Bool) → list_all (parity_met values) parities ≡ true → list_all (parity_met values) theirs ≡ true)
-    → ((clause : List Literal) → IsClauseOf formula clause → Rattle.cx_semantics.specs.Fresh.IsLive table clause)
+    → ((clause : List Literal) → IsClauseOf formula clause → RestsOn known clause)
     → SettledBy formula theirs → Quiet formula.variables parities table known → Decides formula.variables known
-settled_is_decided formula theirs parities table known fewer live settled q = elim (settled known (record {
-  units = λ clause l c e. (q.clauses clause (live clause c)).unit_held l e;
+settled_is_decided formula theirs parities table known fewer rests settled q = elim (settled known (record {
+  units = λ clause l c e. (rests clause c).unit_held l e;
   forced = λ l low high f. q.rows.forced l low high (λ v s. f v (record { agrees = s.agrees; meets = fewer v s.meets }));
 })) [
-  | inl (clause, c, f) ↦ absurd (not_both (is_falsified known clause) f (q.clauses clause (live clause c)).not_falsified)
+  | inl (clause, c, f) ↦ absurd (not_both (is_falsified known clause) f (rests clause c).not_falsified)
   | inr rest ↦ elim rest [
     | inl none ↦ absurd (none (q.rows.consistent.0, record { agrees = q.rows.consistent.1.agrees; meets = fewer q.rows.consistent.0 q.rows.consistent.1.meets }))
     | inr d ↦ d
@@ -95,13 +98,13 @@ all_constraints n v (constraint.Assume lits ∷ cs) w f g h = and_from _ _ (all_
 pub quiet_is_met : (formula : Problem) (parities : List (List Literal)) (table : Table) (known : List Literal) (values : List Bool)
     → AllByRecursion (λ c. AreWithin formula.variables (literals_of c)) formula.constraints
     → ((v : List Bool) → list_all (parity_met v) parities ≡ true → (parity : List Literal) → Contains (parities_of formula.constraints) parity → parity_met v parity ≡ true)
-    → ((clause : List Literal) → IsClauseOf formula clause → Rattle.cx_semantics.specs.Fresh.IsLive table clause)
+    → ((clause : List Literal) → IsClauseOf formula clause → RestsOn known clause)
     → ((l : Literal) → assumes formula.constraints l ≡ true → has_literal known l ≡ true)
     → Quiet formula.variables parities table known → Decides formula.variables known → length values ≡ formula.variables → list_all (literal_true values) known ≡ true → Meets formula values
-quiet_is_met formula parities table known values within theirs live assumed q decides long agrees = record {
+quiet_is_met formula parities table known values within theirs rests assumed q decides long agrees = record {
   one_each = long;
   all_met = all_constraints formula.variables values formula.constraints within
-      (λ clause c w. clause_holds formula.variables known decides values clause agrees w (q.clauses clause (live clause c)).not_falsified)
+      (λ clause c w. clause_holds formula.variables known decides values clause agrees w (rests clause c).not_falsified)
       (λ parity c w. parity_agrees formula.variables known decides values q.rows.consistent.0 agrees q.rows.consistent.1.agrees parity w ∙ theirs q.rows.consistent.0 q.rows.consistent.1.meets parity c)
       (λ l h. true_by_all values known l agrees (assumed l h));
 }
@@ -117,8 +120,14 @@ module _ (formula : Problem) (parities : List (List Literal)) (s : Search) (ok :
 -- ---- the search, where both engines are quiet
 module _ (formula : Problem) (parities : List (List Literal)) (s : Search) (ok : IsSearch formula parities s) (quiet : Quiet formula.variables parities s.moment.tables.clauses (all_held s.trail))
     (theirs : HaveTheirs formula parities) where
-  formula_live : (clause : List Literal) → IsClauseOf formula clause → Rattle.cx_semantics.specs.Fresh.IsLive s.moment.tables.clauses clause
-  formula_live clause c = let kept = ok.serves.keeps_clauses clause c in (kept.0, kept.2)
+  -- each clause of the formula rests, since it is a tautology or a live one lies inside it
+  formula_rests : (clause : List Literal) → IsClauseOf formula clause → RestsOn (all_held s.trail) clause
+  formula_rests clause c = elim (ok.covered clause c) [
+    | inl both ↦
+        let w = some_member (λ l. has_literal clause (negate l)) clause both in
+        tautology_rests (all_held s.trail) clause w.0 (trail_no_clash s.moment.tables.clauses (IsOfParities formula.variables parities) s.trail ok.serves.stands) w.1 w.2
+    | inr (n, cover) ↦ rests_around (all_held s.trail) cover.inner clause cover.inside (quiet.clauses cover.inner (n, cover.live))
+  ]
 
   all_theirs : (v : List Bool) (lists : List (List Literal)) → ((parity : List Literal) → Contains lists parity → parity_met v parity ≡ true) → list_all (parity_met v) lists ≡ true
   all_theirs v [] h = refl
@@ -127,9 +136,9 @@ module _ (formula : Problem) (parities : List (List Literal)) (s : Search) (ok :
   -- no decision is made over a formula that is settled with the recovered parities
   pub settled_wants_no_decision : SettledWithRecovered formula → Decides formula.variables (all_held s.trail)
   settled_wants_no_decision settled = settled_is_decided formula settled.parities parities s.moment.tables.clauses (all_held s.trail)
-      (λ v h. all_theirs v settled.parities (λ parity c. theirs v h parity (settled.are parity c))) formula_live settled.settled quiet
+      (λ v h. all_theirs v settled.parities (λ parity c. theirs v h parity (settled.are parity c))) formula_rests settled.settled quiet
 
   -- a full trail meets the formula
   pub full_is_met : ((l : Literal) → assumes formula.constraints l ≡ true → has_literal (all_held s.trail) l ≡ true) → (values : List Bool) → AllByRecursion (λ c. AreWithin formula.variables (literals_of c)) formula.constraints → Decides formula.variables (all_held s.trail) → length values ≡ formula.variables
       → list_all (literal_true values) (all_held s.trail) ≡ true → Meets formula values
-  full_is_met assumed values within decides long agrees = quiet_is_met formula parities s.moment.tables.clauses (all_held s.trail) values within (λ v h parity c. theirs v h parity (inl c)) formula_live assumed quiet decides long agrees
+  full_is_met assumed values within decides long agrees = quiet_is_met formula parities s.moment.tables.clauses (all_held s.trail) values within (λ v h parity c. theirs v h parity (inl c)) formula_rests assumed quiet decides long agrees

@@ -1,5 +1,5 @@
 -- A step that ends the log: the log is right to its end, the marks are as before, and nothing meets the formula.
-use Rattle.std.proofs.Common.{◌≡◌, refl, sym, ap, ◌∙◌, subst, ℕ, ℤ, true, false, not, ◌||◌, MatchBool, List, [], ◌∷◌, ◌++◌, length, Some, is_some, true≢false, length-append, append-nil, inl, inr}
+use Rattle.std.proofs.Common.{◌≡◌, refl, sym, ap, ◌∙◌, subst, ℕ, ℤ, Bool, true, false, not, ◌||◌, MatchBool, List, [], ◌∷◌, ◌++◌, length, Some, is_some, true≢false, length-append, append-nil, inl, inr}
 use Rattle.std.proofs.lemmas.List.Elements.{filter_map-append}
 use Rattle.std.specs.List.{list_all, cons_option}
 use Rattle.std.proofs.lemmas.Bool.{and_parts}
@@ -23,9 +23,9 @@ use Rattle.cx_semantics.proofs.MarkedLaws.{events_go_on}
 use Rattle.cx_semantics.proofs.FailingLaws.{ended_steps_fail}
 use Rattle.cx_semantics.proofs.Soundness.{right_steps_are_unmet}
 use Rattle.search_steps.specs.Hints.{AreHintsFor, IsHinted, AreHinted}
-use Rattle.search_steps.specs.Search.{Search, IsSearch}
+use Rattle.search_steps.specs.Search.{Search, IsSearchIn}
 use Rattle.search_steps.specs.LogSteps.{IsAddition, IsEnded, IsClauseOfRow}
-use Rattle.search_steps.specs.Schedule.{IsScheduled}
+use Rattle.search_steps.specs.Schedule.{IsScheduledIn}
 use Rattle.search_steps.proofs.HintLaws.{step_is_hinted}
 use Rattle.search_steps.proofs.ScheduleLaws.{MayFollow, moment_is, scheduled_then}
 use Rattle.search_steps.proofs.LogLaws.{begins_still}
@@ -35,7 +35,7 @@ pub ended_is_unmet : (formula : Problem) (events : List LogEvent) → IsEnded fo
 ended_is_unmet formula events (inl clash) = right_steps_are_unmet formula (steps_of events) 0 (inl (clash, refl))
 ended_is_unmet formula events (inr ended) = right_steps_are_unmet formula (steps_of events) (length (steps_of events)) (inr ended)
 
-module _ (formula : Problem) (parities : List (List Literal)) (s : Search) (ok : IsSearch formula parities s) where
+module _ {tidies : Bool} (formula : Problem) (parities : List (List Literal)) (s : Search) (ok : IsSearchIn tidies formula parities s) where
   -- a right step that ends the log
   last_step_there : (step : LogStep) → IsRight (log_calculus formula) s.moment.tables step → derives_ending_clause formula step ≡ true
       → EndsAt (log_calculus formula) (steps_of (s.events ++ Step step ∷ [])) (length (steps_of (s.events ++ Step step ∷ [])))
@@ -73,13 +73,13 @@ module _ (formula : Problem) (parities : List (List Literal)) (s : Search) (ok :
   }
 
   -- and no learned clause is deleted by it
-  last_step_is_scheduled : (step : LogStep) → MayFollow s.events (Step step) → IsScheduled (s.events ++ Step step ∷ [])
-  last_step_is_scheduled step may = scheduled_then s.events (Step step) ok.log.scheduled may
+  last_step_is_scheduled : (step : LogStep) → MayFollow tidies s.events (Step step) → IsScheduledIn tidies (s.events ++ Step step ∷ [])
+  last_step_is_scheduled step may = scheduled_then tidies s.events (Step step) ok.log.scheduled may
 
-  pub chained_clause_is_scheduled : (n : ℕ) (zs hints : List ℤ) → IsScheduled (s.events ++ Step (ClauseWithHints n zs hints) ∷ [])
+  pub chained_clause_is_scheduled : (n : ℕ) (zs hints : List ℤ) → IsScheduledIn tidies (s.events ++ Step (ClauseWithHints n zs hints) ∷ [])
   chained_clause_is_scheduled n zs hints = last_step_is_scheduled (ClauseWithHints n zs hints) (λ k ys is among. cc)
 
-  pub row_clause_is_scheduled : (n : ℕ) (zs : List ℤ) (source : ℕ) → IsScheduled (s.events ++ Step (ClauseOfParity n zs source) ∷ [])
+  pub row_clause_is_scheduled : (n : ℕ) (zs : List ℤ) (source : ℕ) → IsScheduledIn tidies (s.events ++ Step (ClauseOfParity n zs source) ∷ [])
   row_clause_is_scheduled n zs source = last_step_is_scheduled (ClauseOfParity n zs source) (λ k ys is among. cc)
 
   -- and its hints are right

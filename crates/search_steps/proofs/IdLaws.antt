@@ -1,5 +1,5 @@
 -- Each step keeps the ranges of ids.
-use Rattle.std.proofs.Common.{◌≡◌, refl, sym, ap, ◌∙◌, subst, ℕ, ◌+◌, ◌≤◌, ◌<◌, ℤ, Bool, true, false, cond, not, ◌||◌, nat_eq, nat_le, nat_lt, eqb-true, List, [], ◌∷◌, ◌++◌, length, Some, None, arith}
+use Rattle.std.proofs.Common.{◌≡◌, refl, sym, ap, ◌∙◌, subst, ℕ, ◌+◌, ◌≤◌, ◌<◌, ℤ, true, false, cond, not, ◌||◌, nat_eq, nat_le, nat_lt, eqb-true, List, [], ◌∷◌, ◌++◌, length, Some, None, arith, inl, inr}
 use Rattle.std.specs.List.{AllByRecursion}
 use Rattle.std.specs.FinMap as map_
 use Rattle.std.proofs.lemmas.Bool.{or_parts, ltb-true, ltb-false}
@@ -10,6 +10,7 @@ use Rattle.cx_base.specs.declared.steps.LogStep.TheVariants.{ClauseWithHints, Pa
 use Rattle.cx_base.specs.declared.steps.LogEvent.TheVariants.{Step}
 use Rattle.cx_base.specs.Integers.{literals}
 use Rattle.cx_semantics.specs.LogRules.{derives_ending_clause}
+use Rattle.cx_semantics.specs.Chain.{is_inside}
 use Rattle.cx_semantics.specs.Marked.{Moment, after_event, is_among, without}
 use Rattle.cx_semantics.specs.Tables.{Table, get}
 use Rattle.cx_semantics.proofs.Lookups.{Looks-insert, Looks-remove}
@@ -20,6 +21,8 @@ use Rattle.search_steps.specs.Start.{IsBegun}
 use Rattle.search_steps.specs.Hints.{AreHintsFor}
 use Rattle.search_steps.specs.Ids.{ReasonsBelow, AreRowIds, IsRanged, HasFreeSums}
 use Rattle.conflict_learn.proofs.ChainOfResolutions.{by_cases}
+use Rattle.search_steps.specs.Covers.{IsCover, IsSpared, CoversNone, rows_in}
+use Rattle.search_steps.proofs.CoverLaws.{not_before, not_in_parts, not_in_both, spared_where_none}
 use Rattle.search_steps.proofs.Rounds.{round_keeps, round_clears_old, round_clears_new}
 
 -- ---- ids of the two ranges differ
@@ -46,29 +49,13 @@ next_is_not_among bound row_next n (i ∷ ids) h a =
     ap (λ b. b || is_among ids n) (apart_ids n i (λ same. let low = a.0.1 in omega (arith, same, low, h))) ∙ next_is_not_among bound row_next n ids h a.1
 
 -- ---- lists of ids
-kept_without : (P : ℕ → Type 0) (ids : List ℕ) (n : ℕ) → AllByRecursion P ids → AllByRecursion P (without ids n)
+pub kept_without : (P : ℕ → Type 0) (ids : List ℕ) (n : ℕ) → AllByRecursion P ids → AllByRecursion P (without ids n)
 kept_without P [] n a = tt
 kept_without P (i ∷ ids) n a = elim (not (nat_eq n i)) as (λ b. AllByRecursion P (cond b (i ∷ without ids n) (without ids n))) [ true ↦ (a.0, kept_without P ids n a.1) | false ↦ kept_without P ids n a.1 ]
 
 rows_up : (bound low high : ℕ) (ids : List ℕ) → low ≤ high → AreRowIds bound low ids → AreRowIds bound high ids
 rows_up bound low high [] h a = tt
 rows_up bound low high (i ∷ ids) h a = ((a.0.0, let less = a.0.1 in omega (arith, less, h)), rows_up bound low high ids h a.1)
-
-not_in_parts : (xs ys : List ℕ) (m : ℕ) → is_among (xs ++ ys) m ≡ false → (is_among xs m ≡ false) × (is_among ys m ≡ false)
-not_in_parts [] ys m h = (refl, h)
-not_in_parts (x ∷ xs) ys m h =
-    let p = or_parts (nat_eq m x) (is_among (xs ++ ys) m) h in
-    let r = not_in_parts xs ys m p.1 in
-    (ap (λ b. b || is_among xs m) p.0 ∙ r.0, r.1)
-
--- what is not among the others and is not n was not among all
-not_before : (xs : List ℕ) (n m : ℕ) → nat_eq m n ≡ false → is_among (without xs n) m ≡ false → is_among xs m ≡ false
-not_before [] n m d h = refl
-not_before (x ∷ xs) n m d h = go (nat_eq n x) refl h (not_before xs n m d)
-  where
-    go : (b : Bool) → nat_eq n x ≡ b → is_among (cond (not b) (x ∷ without xs n) (without xs n)) m ≡ false → (is_among (without xs n) m ≡ false → is_among xs m ≡ false) → is_among (x ∷ xs) m ≡ false
-    go true e g rec = ap (λ b. b || is_among xs m) (ap (nat_eq m) (sym (eqb-true n x e)) ∙ d) ∙ rec g
-    go false e g rec = let p = or_parts (nat_eq m x) (is_among (without xs n) m) g in ap (λ b. b || is_among xs m) p.0 ∙ rec p.1
 
 lower_all : (low high : ℕ) (ids : List ℕ) → low ≤ high → AllByRecursion (λ n. n < low) ids → AllByRecursion (λ n. n < high) ids
 lower_all low high [] h a = tt
@@ -226,14 +213,31 @@ module _ (formula : Problem) (bound next row_next : ℕ) where
     pub row_next_is_free : bound ≤ row_next → get s.moment.tables.clauses row_next ≡ None
     row_next_is_free h = i.rows_free row_next h (next_is_not_among bound row_next row_next s.moment.new_clauses (omega arith) i.new_rows) (next_is_not_among bound row_next row_next s.moment.old_clauses (omega arith) i.old_rows)
 
+    -- from the bound on there are the clauses of rows alone
+    high_covers_none : (n : ℕ) → bound ≤ n → CoversNone s.moment n
+    high_covers_none n high = by_cases (is_among (rows_in s.moment) n)
+        (λ e. inl e)
+        (λ e. let p = not_in_parts s.moment.new_clauses s.moment.old_clauses n e in inr (i.rows_free n high p.0 p.1))
+
+    -- so without one of them each clause of the formula is covered still
+    pub high_is_spared : (parities : List (List Literal)) → IsSearch formula parities s → (n : ℕ) → bound ≤ n → IsSpared formula s.moment n
+    high_is_spared parities ok n high = spared_where_none formula s.moment n (high_covers_none n high) ok.covered
+
+    -- a clause below the bound covers each that it lies inside
+    pub low_is_cover : (n : ℕ) (inner clause : List Literal) → n < bound → get s.moment.tables.clauses n ≡ Some inner → is_inside inner clause ≡ true → IsCover s.moment.tables.clauses (rows_in s.moment) clause n
+    low_is_cover n inner clause low live inside = record {
+      inner = inner;
+      live = live;
+      inside = inside;
+      no_row = not_in_both s.moment.new_clauses s.moment.old_clauses n (low_is_not_among bound row_next n s.moment.new_clauses low i.new_rows) (low_is_not_among bound row_next n s.moment.old_clauses low i.old_rows);
+    }
+
     -- clauses of rows may go, and no clause for good has an id of theirs
-    pub row_ids_are_temporary : (ids : List ℕ) → AreRowIds bound row_next ids → AreTemporary formula s ids
+    pub row_ids_are_temporary : (ids : List ℕ) → AreRowIds bound row_next ids → AreTemporary s ids
     row_ids_are_temporary [] a = tt
     row_ids_are_temporary (n ∷ ids) a =
-        let o = i.originals in
-        let r = i.room in
         let low = a.0.0 in
-        ((omega (arith, o, r, low), high_is_not_among bound n s.moment.learned low i.learned, high_is_no_reason bound n s.trail low i.reasons), row_ids_are_temporary ids a.1)
+        ((high_covers_none n low, high_is_not_among bound n s.moment.learned low i.learned, high_is_no_reason bound n s.trail low i.reasons), row_ids_are_temporary ids a.1)
 
     pub low_is_no_row : (n : ℕ) → n < bound → is_among s.moment.new_clauses n ≡ false
     low_is_no_row n h = low_is_not_among bound row_next n s.moment.new_clauses h i.new_rows

@@ -3,6 +3,8 @@ pub mod FreshLaws
 pub mod TrailLaws
 pub mod QuietLaws
 pub mod ServesLaws
+pub mod CoverLaws
+pub mod PlainLaws
 pub mod LogLaws
 pub mod RowLaws
 pub mod EndLaws
@@ -28,3 +30,5 @@ pub mod ScheduleLaws
 pub mod HintLaws
 pub mod TidyLineLaws
 pub mod SizeLaws
+pub mod TidySteps
+mod TidyIds

@@ -1,8 +1,8 @@
 -- Each step that the search tells is right and fits, and keeps what holds of the search.
-use Rattle.std.proofs.Common.{◌≡◌, refl, sym, ap, ◌∙◌, subst, ℕ, zero, suc, ◌+◌, ◌*◌, ◌≤◌, ◌<◌, ℤ, true, false, not, ◌||◌, MatchBool, List, [], ◌∷◌, ◌++◌, length, Some, None, is_some, filter_map, Contains, arith, ◌⊎◌, inl, inr, true≢false, append-nil, append_assoc, IsTrue, IsFalse}
+use Rattle.std.proofs.Common.{◌≡◌, refl, sym, ap, ◌∙◌, subst, ℕ, zero, suc, ◌+◌, ◌*◌, ◌≤◌, ◌<◌, ℤ, Bool, true, false, not, ◌||◌, MatchBool, List, [], ◌∷◌, ◌++◌, length, Some, None, is_some, filter_map, Contains, arith, ◌⊎◌, inl, inr, true≢false, append-nil, append_assoc, IsTrue, IsFalse}
 use Rattle.std.proofs.lemmas.List.Elements.{filter_map-append}
 use Rattle.std.specs.List.{list_any, list_all, range_with_len}
-use Rattle.std.proofs.lemmas.Bool.{and_parts, and_from}
+use Rattle.std.proofs.lemmas.Bool.{and_parts, and_from, or_cases}
 use Rattle.cx_base.specs.Literals.{Literal, negate}
 use Rattle.cx_base.specs.Problem.{Problem, clauses_of, clause_met, parity_met}
 use Rattle.cx_base.specs.declared.constraint.Constraint.{Constraint}
@@ -12,7 +12,7 @@ use Rattle.cx_base.specs.declared.steps.LogStep.TheVariants.{ClauseWithHints, Pa
 use Rattle.cx_base.specs.declared.steps.LogEvent.{LogEvent}
 use Rattle.cx_base.specs.declared.steps.LogEvent.TheVariants.{Step, Conflict}
 use Rattle.cx_semantics.specs.Chain.{has_literal, is_inside, negations, same_literals}
-use Rattle.cx_semantics.specs.Fresh.{Fresh, IsLive, KeepsUnits, FalsifiesNone, is_falsified}
+use Rattle.cx_semantics.specs.Fresh.{Fresh, IsLive, KeepsUnits, FalsifiesNone, is_falsified, is_tautology}
 use Rattle.cx_semantics.specs.Implied.{Implies}
 use Rattle.cx_base.specs.Integers.{literals}
 use Rattle.cx_semantics.specs.Judging.{IsRight, Runs}
@@ -26,20 +26,24 @@ use Rattle.cx_semantics.proofs.Closure.{chain_or_closed, has_by_inside}
 use Rattle.cx_semantics.proofs.JudgingLaws.{runs_push}
 use Rattle.cx_semantics.proofs.MarkedLaws.{events_go_on}
 use Rattle.cx_semantics.proofs.Members.{has_at_head, has_split, all_by}
+use Rattle.tidy_rules.proofs.InsideLaws.{tautology_inside, inside_through}
+use Rattle.search_steps.specs.Covers.{HasCover, AreCovered, IsSpared, CoversNone, ArePlain, rows_in}
 use Rattle.search_steps.specs.Trail.{Entry, by_clause, held, all_held, IsTrail, Forces, level_of}
 use Rattle.search_steps.specs.Quiet.{IsOfParities}
-use Rattle.search_steps.specs.Search.{Search, IsLog, Serves, IsSearch, told, marked, IsServed, IsLearnedOf}
+use Rattle.search_steps.specs.Search.{Search, IsLog, Serves, IsSearchIn, told, marked, IsServed, IsLearnedOf}
 use Rattle.search_steps.specs.LogSteps.{IsNoReason, IsAddition, RestOnClauses, IsRowOf, IsClauseOfRow}
 use Rattle.conflict_learn.proofs.ChainOfResolutions.{negated_in}
 use Rattle.search_steps.specs.Hints.{AreHintsFor, IsHinted}
 use Rattle.search_steps.specs.Schedule.{IsInReduction, moment_after}
 use Rattle.search_steps.proofs.HintLaws.{step_is_hinted, mark_is_hinted}
-use Rattle.search_steps.proofs.ScheduleLaws.{MayFollow, moment_is, scheduled_then, mark_may_follow}
+use Rattle.search_steps.proofs.ScheduleLaws.{MayFollow, moment_is, scheduled_then, mark_may_follow, goes_in_reduction}
 use Rattle.search_steps.proofs.Sets.{not_both, true_rests}
 use Rattle.search_steps.proofs.FreshLaws.{takes_forced}
 use Rattle.search_steps.proofs.QuietLaws.{implied_rests}
 use Rattle.search_steps.proofs.TrailLaws.{held_rises, held_inside, trail_no_clash, part_no_clash}
 use Rattle.search_steps.proofs.ServesLaws.{put_serves, drop_serves, put_parity_serves, drop_parity_serves, learned_is_fresh}
+use Rattle.search_steps.proofs.CoverLaws.{put_covered, put_row_covered, drop_covered, spared_where_none}
+use Rattle.search_steps.proofs.PlainLaws.{put_plain, learned_plain, unlearned_plain, drop_plain}
 
 -- The unit clause of a literal of level 0: some live clause forces it from older literals, each of which a live clause forces.
 pub record IsUnitOf (s : Search) (l : Literal) (older : List Entry) (clause : List Literal) : Type 0 where
@@ -48,9 +52,9 @@ pub record IsUnitOf (s : Search) (l : Literal) (older : List Entry) (clause : Li
   pub live : IsLive s.moment.tables.clauses clause
   pub forces : Forces clause (all_held older) l
 
--- an id that may be deleted without leave: of no learned clause and of none of the formula
-pub record IsTemporary (formula : Problem) (s : Search) (n : ℕ) : Type 0 where
-  pub high : length (clauses_of formula.constraints) < n
+-- an id that may be deleted without leave: it covers no clause of the formula, and is that of no learned one
+pub record IsTemporary (s : Search) (n : ℕ) : Type 0 where
+  pub covers_none : CoversNone s.moment n
   pub not_learned : IsFalse (is_among s.moment.learned n)
 
 -- the literal is in each set that is closed under the live clauses and falsifies none of them
@@ -71,9 +75,9 @@ next_range n =
     let f : 1 + n ≡ n + 1 = omega arith in
     ap (range_with_len 1) e ∙ range_push 1 n ∙ ap (λ x. range_with_len 1 n ++ x ∷ []) f
 
-module _ (formula : Problem) (events : List LogEvent) (moment : Moment) (conflicts : ℕ) (log : IsLog formula events moment conflicts) where
-  pub step_goes_on : (step : LogStep) → IsRight (log_calculus formula) moment.tables step → derives_ending_clause formula step ≡ false → StepFits formula moment step → MayFollow events (Step step) → IsHinted moment.tables step
-      → IsLog formula (events ++ Step step ∷ []) (after_event moment (Step step)) conflicts
+module _ {tidies : Bool} (formula : Problem) (events : List LogEvent) (moment : Moment) (conflicts : ℕ) (log : IsLog tidies formula events moment conflicts) where
+  pub step_goes_on : (step : LogStep) → IsRight (log_calculus formula) moment.tables step → derives_ending_clause formula step ≡ false → StepFits formula moment step → MayFollow tidies events (Step step) → IsHinted moment.tables step
+      → IsLog tidies formula (events ++ Step step ∷ []) (after_event moment (Step step)) conflicts
   step_goes_on step is_right goes fits may hinted = record {
     apart = log.apart;
     runs = subst (λ steps. Runs (log_calculus formula) (log_calculus formula).start steps (after_log_step moment.tables step)) (sym (filter_map-append step_of events (Step step ∷ [])))
@@ -81,18 +85,18 @@ module _ (formula : Problem) (events : List LogEvent) (moment : Moment) (conflic
     fits = events_go_on formula first_moment moment events (Step step) log.fits fits;
     marks = filter_map-append mark_of events (Step step ∷ []) ∙ append-nil (filter_map mark_of events) ∙ log.marks;
     originals = begins_still formula.constraints events (Step step ∷ []) log.originals;
-    scheduled = scheduled_then events (Step step) log.scheduled may;
+    scheduled = scheduled_then tidies events (Step step) log.scheduled may;
     hinted = step_is_hinted events moment (moment_is formula moment events log.fits) step log.hinted hinted;
   }
 
-  pub mark_goes_on : MarkFits formula moment → IsLog formula (events ++ Conflict (conflicts + 1) ∷ []) (after_event moment (Conflict (conflicts + 1))) (conflicts + 1)
+  pub mark_goes_on : MarkFits formula moment → IsLog tidies formula (events ++ Conflict (conflicts + 1) ∷ []) (after_event moment (Conflict (conflicts + 1))) (conflicts + 1)
   mark_goes_on fits = record {
     apart = log.apart;
     runs = subst (λ steps. Runs (log_calculus formula) (log_calculus formula).start steps moment.tables) (sym (filter_map-append step_of events (Conflict (conflicts + 1) ∷ []) ∙ append-nil (filter_map step_of events))) log.runs;
     fits = events_go_on formula first_moment moment events (Conflict (conflicts + 1)) log.fits fits;
     marks = filter_map-append mark_of events (Conflict (conflicts + 1) ∷ []) ∙ ap (λ xs. xs ++ (conflicts + 1) ∷ []) log.marks ∙ sym (next_range conflicts);
     originals = begins_still formula.constraints events (Conflict (conflicts + 1) ∷ []) log.originals;
-    scheduled = scheduled_then events (Conflict (conflicts + 1)) log.scheduled (mark_may_follow events (conflicts + 1));
+    scheduled = scheduled_then tidies events (Conflict (conflicts + 1)) log.scheduled (mark_may_follow tidies events (conflicts + 1));
     hinted = mark_is_hinted events (conflicts + 1) log.hinted;
   }
 
@@ -130,10 +134,12 @@ reached_is_known table l h f =
     only (inr e) = absurd (true≢false (sym e))
 
 -- ---- steps of the search
-module _ (formula : Problem) (parities : List (List Literal)) (s : Search) (ok : IsSearch formula parities s) where
-  tell : (step : LogStep) → IsRight (log_calculus formula) s.moment.tables step → derives_ending_clause formula step ≡ false → StepFits formula s.moment step → MayFollow s.events (Step step) → IsHinted s.moment.tables step
-      → Serves formula parities (after_log_step s.moment.tables step) s.trail s.quiet_levels → IsSearch formula parities (told s (Step step))
-  tell step is_right goes fits may hinted serves = record { log = step_goes_on formula s.events s.moment s.conflicts ok.log step is_right goes fits may hinted; serves = serves }
+module _ {tidies : Bool} (formula : Problem) (parities : List (List Literal)) (s : Search) (ok : IsSearchIn tidies formula parities s) where
+  pub tell : (step : LogStep) → IsRight (log_calculus formula) s.moment.tables step → derives_ending_clause formula step ≡ false → StepFits formula s.moment step → MayFollow tidies s.events (Step step) → IsHinted s.moment.tables step
+      → Serves formula parities (after_log_step s.moment.tables step) s.trail s.quiet_levels → AreCovered formula (after_log_step s.moment.tables step).clauses (rows_in (after_event s.moment (Step step)))
+      → ArePlain (after_log_step s.moment.tables step).clauses (after_event s.moment (Step step)).learned → IsSearchIn tidies formula parities (told s (Step step))
+  tell step is_right goes fits may hinted serves covered plain =
+      record { log = step_goes_on formula s.events s.moment s.conflicts ok.log step is_right goes fits may hinted; serves = serves; covered = covered; plain = plain }
 
   not_live : (table : Table) (n : ℕ) → get table n ≡ None → is_live table n ≡ false
   not_live table n e = ap is_some e
@@ -141,7 +147,7 @@ module _ (formula : Problem) (parities : List (List Literal)) (s : Search) (ok :
   -- the unit clause of a literal of level 0 that propagation reaches
   pub reached_unit_keeps : (n : ℕ) (z : ℤ) (hints : List ℤ) → IsAddition formula s.moment.tables.clauses n (z ∷ []) → derives_ending_clause formula (ClauseWithHints n (z ∷ []) hints) ≡ false → s.moment.awaits ≡ false
       → AreHintsFor s.moment.tables.clauses (Rattle.cx_base.specs.Integers.literal z ∷ []) hints → IsReached s.moment.tables.clauses (Rattle.cx_base.specs.Integers.literal z) → has_literal (held 0 s.trail) (Rattle.cx_base.specs.Integers.literal z) ≡ true
-      → IsSearch formula parities (told s (Step (ClauseWithHints n (z ∷ []) hints)))
+      → IsSearchIn tidies formula parities (told s (Step (ClauseWithHints n (z ∷ []) hints)))
   reached_unit_keeps n z hints a goes served right reached level_0 =
       let l = Rattle.cx_base.specs.Integers.literal z in
       let IsRow = IsOfParities formula.variables parities in
@@ -157,38 +163,40 @@ module _ (formula : Problem) (parities : List (List Literal)) (s : Search) (ok :
       (part_no_clash (held k s.trail) (all_held s.trail) (held_inside k s.trail) (trail_no_clash s.moment.tables.clauses IsRow s.trail ok.serves.stands))
       (record { l = l; has_it = has_at_head l []; is_held = has_by_inside (held 0 s.trail) (held k s.trail) l (held_rises 0 k s.trail (omega arith)) level_0 }))
       ok.serves)
+      (put_covered formula s.moment.tables.clauses (rows_in s.moment) n (l ∷ []) a.free ok.covered)
+      (unlearned_plain s.moment.tables.clauses n (l ∷ []) s.moment.learned s.moment.awaits served a.free ok.plain)
 
   -- and of one that a live clause forces
   pub unit_keeps : (n : ℕ) (z : ℤ) (hints : List ℤ) (older : List Entry) (clause : List Literal) → IsAddition formula s.moment.tables.clauses n (z ∷ []) → AreHintsFor s.moment.tables.clauses (Rattle.cx_base.specs.Integers.literal z ∷ []) hints → derives_ending_clause formula (ClauseWithHints n (z ∷ []) hints) ≡ false → s.moment.awaits ≡ false
       → IsTrail s.moment.tables.clauses (IsOfParities formula.variables parities) older
-      → IsUnitOf s (Rattle.cx_base.specs.Integers.literal z) older clause → IsSearch formula parities (told s (Step (ClauseWithHints n (z ∷ []) hints)))
+      → IsUnitOf s (Rattle.cx_base.specs.Integers.literal z) older clause → IsSearchIn tidies formula parities (told s (Step (ClauseWithHints n (z ∷ []) hints)))
   unit_keeps n z hints older clause a right goes served t u =
       let l = Rattle.cx_base.specs.Integers.literal z in
       let IsRow = IsOfParities formula.variables parities in
       reached_unit_keeps n z hints a goes served right (forced_is_reached s.moment.tables.clauses IsRow older t u.on_clauses clause u.live l u.forces) u.level_0
 
   -- the sum of live parities
-  pub live_sum_keeps : (n : ℕ) (zs : List ℤ) (ids : List ℕ) → IsAddition formula s.moment.tables.parities n zs → AreLive s.moment.tables.parities ids → IsSum (literals zs) (named s.moment.tables.parities ids) → IsSearch formula parities (told s (Step (Parity n zs ids)))
+  pub live_sum_keeps : (n : ℕ) (zs : List ℤ) (ids : List ℕ) → IsAddition formula s.moment.tables.parities n zs → AreLive s.moment.tables.parities ids → IsSum (literals zs) (named s.moment.tables.parities ids) → IsSearchIn tidies formula parities (told s (Step (Parity n zs ids)))
   live_sum_keeps n zs ids a live sums = tell (Parity n zs ids)
       (a.within, (not_live s.moment.tables.parities n a.free, (all_are_live ids live, (sums, tt))))
       refl tt (λ k ys is among. cc) tt
-      (put_parity_serves formula parities s.trail s.quiet_levels s.moment.tables n (literals zs) a.free ok.serves)
+      (put_parity_serves formula parities s.trail s.quiet_levels s.moment.tables n (literals zs) a.free ok.serves) ok.covered ok.plain
     where
       all_are_live : (ids : List ℕ) → AreLive s.moment.tables.parities ids → list_any (λ k. not (is_live s.moment.tables.parities k)) ids ≡ false
       all_are_live [] h = refl
       all_are_live (k ∷ ks) h = ap (λ b. not b || list_any (λ x. not (is_live s.moment.tables.parities x)) ks) h.0 ∙ all_are_live ks h.1
 
   -- and that of parities of the engine
-  pub sum_keeps : (n : ℕ) (zs : List ℤ) (ids : List ℕ) → IsAddition formula s.moment.tables.parities n zs → IsRowOf parities s.moment.tables ids (literals zs) → IsSearch formula parities (told s (Step (Parity n zs ids)))
+  pub sum_keeps : (n : ℕ) (zs : List ℤ) (ids : List ℕ) → IsAddition formula s.moment.tables.parities n zs → IsRowOf parities s.moment.tables ids (literals zs) → IsSearchIn tidies formula parities (told s (Step (Parity n zs ids)))
   sum_keeps n zs ids a row = live_sum_keeps n zs ids a row.live row.sums
 
   -- a parity that live clauses imply
-  pub clauses_parity_keeps : (n : ℕ) (zs : List ℤ) (ids : List ℕ) → get s.moment.tables.parities n ≡ None → IsRight (log_calculus formula) s.moment.tables (ParityOfClauses n zs ids) → IsSearch formula parities (told s (Step (ParityOfClauses n zs ids)))
-  clauses_parity_keeps n zs ids free is_right = tell (ParityOfClauses n zs ids) is_right refl tt (λ k ys is among. cc) tt (put_parity_serves formula parities s.trail s.quiet_levels s.moment.tables n (literals zs) free ok.serves)
+  pub clauses_parity_keeps : (n : ℕ) (zs : List ℤ) (ids : List ℕ) → get s.moment.tables.parities n ≡ None → IsRight (log_calculus formula) s.moment.tables (ParityOfClauses n zs ids) → IsSearchIn tidies formula parities (told s (Step (ParityOfClauses n zs ids)))
+  clauses_parity_keeps n zs ids free is_right = tell (ParityOfClauses n zs ids) is_right refl tt (λ k ys is among. cc) tt (put_parity_serves formula parities s.trail s.quiet_levels s.moment.tables n (literals zs) free ok.serves) ok.covered ok.plain
 
   -- the clause of a row, where the sum of the row is live
   pub row_clause_keeps : (n : ℕ) (zs : List ℤ) (source : ℕ) (row : List Literal) → IsAddition formula s.moment.tables.clauses n zs → get s.moment.tables.parities source ≡ Some row
-      → IsOfParities formula.variables parities (literals zs) → IsClauseOfRow formula.variables row (literals zs) → derives_ending_clause formula (ClauseOfParity n zs source) ≡ false → IsSearch formula parities (told s (Step (ClauseOfParity n zs source)))
+      → IsOfParities formula.variables parities (literals zs) → IsClauseOfRow formula.variables row (literals zs) → derives_ending_clause formula (ClauseOfParity n zs source) ≡ false → IsSearchIn tidies formula parities (told s (Step (ClauseOfParity n zs source)))
   row_clause_keeps n zs source row a live of_parities c goes = tell (ClauseOfParity n zs source)
       (a.within, (not_live s.moment.tables.clauses n a.free, (ap (λ b. not b || false) (ap is_some live), (implied, tt))))
       goes
@@ -196,6 +204,8 @@ module _ (formula : Problem) (parities : List (List Literal)) (s : Search) (ok :
       (λ k ys is among. cc) tt
       (put_serves formula parities s.trail s.quiet_levels s.moment.tables n (literals zs) a.free
       (λ k h. implied_rests formula.variables parities (held k s.trail) (literals zs) (ok.serves.quiet k h).rows of_parities) ok.serves)
+      (put_row_covered formula s.moment.tables.clauses (rows_in s.moment) n (literals zs) a.free ok.covered)
+      (put_plain s.moment.tables.clauses n (literals zs) a.free s.moment.learned ok.plain)
     where
       implied : Implies (all_met parity_met (named s.moment.tables.parities (source ∷ []))) (λ values. clause_met values (literals zs))
       implied values h = c.implied values (and_parts (parity_met values row) true
@@ -204,7 +214,7 @@ module _ (formula : Problem) (parities : List (List Literal)) (s : Search) (ok :
   -- a learned clause, where one is owed
   pub learned_keeps : (n : ℕ) (zs hints : List ℤ) (back : ℕ) (l : Literal) → IsAddition formula s.moment.tables.clauses n zs → derives_ending_clause formula (ClauseWithHints n zs hints) ≡ false → s.moment.awaits ≡ true → s.quiet_levels ≡ level_of s.trail
       → AreHintsFor s.moment.tables.clauses (literals zs) hints → IsLearnedOf s.trail back (literals zs) l
-      → IsSearch formula parities (record (told s (Step (ClauseWithHints n zs hints))) { quiet_levels = back })
+      → IsSearchIn tidies formula parities (record (told s (Step (ClauseWithHints n zs hints))) { quiet_levels = back })
   learned_keeps n zs hints back l a goes owed levels right learned = record {
     log = step_goes_on formula s.events s.moment s.conflicts ok.log (ClauseWithHints n zs hints)
         (a.within, (not_live s.moment.tables.clauses n a.free, ((right.ids, right.live, right.chain), tt)))
@@ -218,9 +228,10 @@ module _ (formula : Problem) (parities : List (List Literal)) (s : Search) (ok :
         (record {
           stands = ok.serves.stands;
           quiet = λ k h. let low = learned.lower in ok.serves.quiet k (omega (arith, h, levels, low));
-          keeps_clauses = ok.serves.keeps_clauses;
           keeps_parities = ok.serves.keeps_parities;
         });
+    covered = put_covered formula s.moment.tables.clauses (rows_in s.moment) n (literals zs) a.free ok.covered;
+    plain = learned_plain s.moment.tables.clauses n (literals zs) s.moment.learned s.moment.awaits owed (learned_is_fresh formula parities s ok back (literals zs) l levels learned).no_tautology a.free ok.plain;
   }
     where
       long : (zs : List ℤ) → has_literal (literals zs) l ≡ true → 1 ≤ length (literals zs)
@@ -228,40 +239,51 @@ module _ (formula : Problem) (parities : List (List Literal)) (s : Search) (ok :
       long (z ∷ zs) h = omega arith
 
   -- deletions
-  pub delete_keeps : (n : ℕ) (zs : List ℤ) → IsTemporary formula s n → IsNoReason n s.trail → IsSearch formula parities (told s (Step (Delete n zs)))
+  pub delete_keeps : (n : ℕ) (zs : List ℤ) → IsTemporary s n → IsNoReason n s.trail → IsSearchIn tidies formula parities (told s (Step (Delete n zs)))
   delete_keeps n zs t no_reason = tell (Delete n zs) tt refl
       (λ h. not_both (is_among s.moment.learned n) (and_parts _ _ h).0 t.not_learned)
       (λ k ys is among. absurd (not_both (is_among s.moment.learned n) (was_learned k ys is among) t.not_learned))
       tt
-      (drop_serves formula parities s.trail s.quiet_levels s.moment.tables n t.high no_reason ok.serves)
+      (drop_serves formula parities s.trail s.quiet_levels s.moment.tables n no_reason ok.serves)
+      (drop_covered formula s.moment n (spared_where_none formula s.moment n t.covers_none ok.covered))
+      (drop_plain s.moment.tables.clauses n s.moment.learned ok.plain)
     where
       was_learned : (k : ℕ) (ys : List ℤ) → Step (Delete n zs) ≡ Step (Delete k ys) → is_among (moment_after s.events).learned k ≡ true → is_among s.moment.learned n ≡ true
       was_learned k ys is among =
           let same : n ≡ k = cc in
           subst (λ (m : Moment). is_among m.learned n ≡ true) (sym (moment_is formula s.moment s.events ok.log.fits)) (subst (λ i. is_among (moment_after s.events).learned i ≡ true) (sym same) among)
 
-  pub delete_learned_keeps : (n : ℕ) (zs : List ℤ) → length (clauses_of formula.constraints) < n → IsNoReason n s.trail → 1000 + 250 * s.moment.reductions ≤ length (without s.moment.learned n)
-      → IsInReduction s.events → IsSearch formula parities (told s (Step (Delete n zs)))
-  delete_learned_keeps n zs high no_reason enough reducing = tell (Delete n zs) tt refl (λ _. enough) (λ k ys is among. reducing) tt
-      (drop_serves formula parities s.trail s.quiet_levels s.moment.tables n high no_reason ok.serves)
+  pub delete_learned_keeps : (n : ℕ) (zs : List ℤ) → IsSpared formula s.moment n → IsNoReason n s.trail → 1000 + 250 * s.moment.reductions ≤ length (without s.moment.learned n)
+      → IsInReduction s.events → IsSearchIn tidies formula parities (told s (Step (Delete n zs)))
+  delete_learned_keeps n zs spared no_reason enough reducing = tell (Delete n zs) tt refl (λ _. enough) (λ k ys is among. goes_in_reduction tidies s.events k reducing) tt
+      (drop_serves formula parities s.trail s.quiet_levels s.moment.tables n no_reason ok.serves)
+      (drop_covered formula s.moment n spared)
+      (drop_plain s.moment.tables.clauses n s.moment.learned ok.plain)
 
-  pub delete_sum_keeps : (n : ℕ) (zs : List ℤ) → length parities < n → IsSearch formula parities (told s (Step (DeleteParity n zs)))
-  delete_sum_keeps n zs high = tell (DeleteParity n zs) tt refl tt (λ k ys is among. cc) tt (drop_parity_serves formula parities s.trail s.quiet_levels s.moment.tables n high ok.serves)
+  pub delete_sum_keeps : (n : ℕ) (zs : List ℤ) → length parities < n → IsSearchIn tidies formula parities (told s (Step (DeleteParity n zs)))
+  delete_sum_keeps n zs high = tell (DeleteParity n zs) tt refl tt (λ k ys is among. cc) tt (drop_parity_serves formula parities s.trail s.quiet_levels s.moment.tables n high ok.serves) ok.covered ok.plain
 
   -- the mark of a counted conflict
   keeps_formula : KeepsFormula formula s.moment.tables.clauses
-  keeps_formula clause h = inl (look (clauses_of formula.constraints) (λ c k. k) h)
+  keeps_formula clause h = look (clauses_of formula.constraints) (λ c k. k) h
     where
-      look : (lists : List (List Literal)) → ((c : List Literal) → Contains lists c → IsClauseOf formula c) → list_any (same_literals clause) lists ≡ true
-          → (inner : List Literal) × IsLive s.moment.tables.clauses inner × (is_inside inner clause ≡ true)
-      look [] f e = not_both false e refl
-      look (c ∷ cs) f e = elim (same_literals clause c) as (λ b. same_literals clause c ≡ b → (b || list_any (same_literals clause) cs) ≡ true → (inner : List Literal) × IsLive s.moment.tables.clauses inner × (is_inside inner clause ≡ true)) [
-        | true ↦ λ g _. let kept = ok.serves.keeps_clauses c (f c (in_head c cs)) in (c, (kept.0, kept.2), (and_parts (is_inside clause c) (is_inside c clause) g).1)
-        | false ↦ λ g r. look cs (λ d k. f d (in_tail c cs d k)) r
-      ] refl e
+      kept : (c : List Literal) → same_literals clause c ≡ true → HasCover s.moment.tables.clauses (rows_in s.moment) c
+          → ((inner : List Literal) × IsLive s.moment.tables.clauses inner × (is_inside inner clause ≡ true)) ⊎ (is_tautology clause ≡ true)
+      kept c g (inl both) = inr (tautology_inside c clause (and_parts (is_inside clause c) (is_inside c clause) g).1 both)
+      kept c g (inr (k, cover)) = inl (cover.inner, (k, cover.live), inside_through cover.inner c clause cover.inside (and_parts (is_inside clause c) (is_inside c clause) g).1)
 
-  pub mark_keeps : IsServed s → IsSearch formula parities (marked s)
+      look : (lists : List (List Literal)) → ((c : List Literal) → Contains lists c → IsClauseOf formula c) → list_any (same_literals clause) lists ≡ true
+          → ((inner : List Literal) × IsLive s.moment.tables.clauses inner × (is_inside inner clause ≡ true)) ⊎ (is_tautology clause ≡ true)
+      look [] f e = not_both false e refl
+      look (c ∷ cs) f e = elim (or_cases (same_literals clause c) (list_any (same_literals clause) cs) e) [
+        | inl g ↦ kept c g (ok.covered c (f c (in_head c cs)))
+        | inr r ↦ look cs (λ d k. f d (in_tail c cs d k)) r
+      ]
+
+  pub mark_keeps : IsServed s → IsSearchIn tidies formula parities (marked s)
   mark_keeps tidy = record {
     log = mark_goes_on formula s.events s.moment s.conflicts ok.log (record { served = tidy.served; kept = keeps_formula; no_old_clauses = tidy.no_old_clauses; no_old_sums = tidy.no_old_sums });
     serves = ok.serves;
+    covered = ok.covered;
+    plain = ok.plain;
   }

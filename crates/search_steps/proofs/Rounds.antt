@@ -1,5 +1,5 @@
 -- A whole conflict, from the end of its analysis to the literal that its clause forces.
-use Rattle.std.proofs.Common.{◌≡◌, refl, sym, ap, ◌∙◌, subst, ℕ, ℤ, Bool, true, false, cond, not, ◌||◌, nat_eq, eq-eqb, List, [], ◌∷◌, ◌++◌, fold, Some, None, arith, true≢false, append-nil}
+use Rattle.std.proofs.Common.{◌≡◌, refl, sym, ap, ◌∙◌, subst, ℕ, ℤ, Bool, true, false, cond, ◌||◌, nat_eq, eq-eqb, List, [], ◌∷◌, ◌++◌, fold, Some, None, arith, true≢false, append-nil}
 use Rattle.std.specs.FinMap as map_
 use Rattle.cx_base.specs.Literals.{Literal, negate}
 use Rattle.cx_base.specs.Problem.{Problem}
@@ -21,25 +21,18 @@ use Rattle.conflict_learn.proofs.ChainOfResolutions.{by_cases}
 use Rattle.search_steps.proofs.Sets.{not_both}
 use Rattle.search_steps.proofs.TrailLaws.{trail_no_clash, held_inside, back_holds, back_level}
 use Rattle.search_steps.proofs.ServesLaws.{force_keeps, jump_keeps}
+use Rattle.search_steps.proofs.CoverLaws.{still_not, covers_none_still}
 use Rattle.search_steps.proofs.LogLaws.{mark_keeps, learned_keeps, delete_keeps}
 use Rattle.search_steps.proofs.RowReasons.{all_deleted}
 
-still_not : (xs : List ℕ) (n m : ℕ) → is_among xs m ≡ false → is_among (without xs n) m ≡ false
-still_not [] n m h = refl
-still_not (x ∷ xs) n m h = go (nat_eq m x) refl h (still_not xs n m)
-  where
-    go : (b : Bool) → nat_eq m x ≡ b → (b || is_among xs m) ≡ false → (is_among xs m ≡ false → is_among (without xs n) m ≡ false) → is_among (cond (not (nat_eq n x)) (x ∷ without xs n) (without xs n)) m ≡ false
-    go true e h rec = absurd (true≢false h)
-    go false e h rec = elim (not (nat_eq n x)) as (λ c. is_among (cond c (x ∷ without xs n) (without xs n)) m ≡ false) [ true ↦ ap (λ b. b || is_among (without xs n) m) e ∙ rec h | false ↦ rec h ]
+pub temporary_still : (s : Search) (n : ℕ) (ids : List ℕ) → AreTemporary s ids → AreTemporary (told s (Step (Delete n []))) ids
+temporary_still s n [] t = tt
+temporary_still s n (m ∷ ids) t = ((covers_none_still s.moment n m t.0.0, still_not s.moment.learned n m t.0.1, t.0.2), temporary_still s n ids t.1)
 
-pub temporary_still : (formula : Problem) (s : Search) (n : ℕ) (ids : List ℕ) → AreTemporary formula s ids → AreTemporary formula (told s (Step (Delete n []))) ids
-temporary_still formula s n [] t = tt
-temporary_still formula s n (m ∷ ids) t = ((t.0.0, still_not s.moment.learned n m t.0.1, t.0.2), temporary_still formula s n ids t.1)
-
-pub deleted_keeps : (formula : Problem) (parities : List (List Literal)) (s : Search) → IsSearch formula parities s → (ids : List ℕ) → AreTemporary formula s ids → IsSearch formula parities (deleted s ids)
+pub deleted_keeps : (formula : Problem) (parities : List (List Literal)) (s : Search) → IsSearch formula parities s → (ids : List ℕ) → AreTemporary s ids → IsSearch formula parities (deleted s ids)
 deleted_keeps formula parities s ok [] t = ok
 deleted_keeps formula parities s ok (n ∷ ids) t =
-    deleted_keeps formula parities (told s (Step (Delete n []))) (delete_keeps formula parities s ok n [] (record { high = t.0.0; not_learned = t.0.1 }) t.0.2) ids (temporary_still formula s n ids t.1)
+    deleted_keeps formula parities (told s (Step (Delete n []))) (delete_keeps formula parities s ok n [] (record { covers_none = t.0.0; not_learned = t.0.1 }) t.0.2) ids (temporary_still s n ids t.1)
 
 -- what each deletion leaves as it was, all of them leave
 deletions_leave : {X : Type 0} (part : Search → X) → ((s : Search) (n : ℕ) → part (told s (Step (Delete n []))) ≡ part s) → (s : Search) (ids : List ℕ) → part (deleted s ids) ≡ part s
@@ -105,7 +98,7 @@ module _ (table : Table) (IsRow : List Literal → Type 0) (s : Search) (t : IsT
 module _ (formula : Problem) (parities : List (List Literal)) (s : Search) (ok : IsSearch formula parities s) (n : ℕ) (zs hints : List ℤ) (back : ℕ) (l : Literal) where
   -- The mark, the learned clause, the deletion of what is temporary, the jump back, and the literal that the clause forces.
   pub round_keeps : IsServed s → s.quiet_levels ≡ level_of s.trail → IsAddition formula s.moment.tables.clauses n zs → derives_ending_clause formula (ClauseWithHints n zs hints) ≡ false → AreHintsFor s.moment.tables.clauses (literals zs) hints → IsLearnedOf s.trail back (literals zs) l
-      → AreTemporary formula (after_learned s n zs hints back) s.moment.new_clauses → is_among s.moment.new_clauses n ≡ false → IsSearch formula parities (after_round s n zs hints back l)
+      → AreTemporary (after_learned s n zs hints back) s.moment.new_clauses → is_among s.moment.new_clauses n ≡ false → IsSearch formula parities (after_round s n zs hints back l)
   round_keeps served levels a goes right learned temporary apart =
       let IsRow = IsOfParities formula.variables parities in
       let s1 = marked s in

@@ -1,5 +1,5 @@
 -- Logs in which learned clauses are deleted on schedule.
-use Rattle.std.proofs.Common.{◌≡◌, refl, sym, ap, ◌∙◌, subst, ℕ, suc, ◌+◌, ◌^◌, ◌≤◌, ◌<◌, length, get_or, arith, ℤ, List, [], ◌∷◌, ◌++◌, append-nil, append_assoc, fold, ◌⊎◌, inl, inr}
+use Rattle.std.proofs.Common.{◌≡◌, refl, sym, ap, ◌∙◌, subst, ℕ, suc, ◌+◌, ◌≤◌, ◌<◌, length, get_or, arith, ℤ, Bool, true, false, List, [], ◌∷◌, ◌++◌, append-nil, append_assoc, fold, ◌⊎◌, inl, inr}
 use Rattle.std.specs.Prelude.{IsTrue}
 use Rattle.std.specs.List.{sum}
 use Rattle.std.proofs.lemmas.Nat.{pow_pos}
@@ -13,7 +13,7 @@ use Rattle.cx_base.specs.declared.steps.LogEvent.{LogEvent}
 use Rattle.cx_base.specs.declared.steps.LogEvent.TheVariants.{Step, Conflict}
 use Rattle.cx_semantics.specs.Marked.{Moment, first_moment, after_event, is_among, EventsFit, original_events}
 use Rattle.search_policy.specs.Restarts.{IsLuby, ends, repeats}
-use Rattle.search_steps.specs.Schedule.{MayReduce, IsInReduction, IsScheduled, moment_after, deletions_of}
+use Rattle.search_steps.specs.Schedule.{MayReduce, IsInReduction, IsScheduled, MayGo, IsScheduledIn, moment_after, deletions_of}
 
 -- ---- Luby's numbers
 pub luby_is_some : {i v : ℕ} → IsLuby i v → 1 ≤ v
@@ -54,18 +54,22 @@ pub moment_is : (formula : Problem) (last : Moment) (events : List LogEvent) →
 moment_is formula last events fit = fits_to formula first_moment last events fit
 
 -- ---- one more event
--- the next event is no deletion of a learned clause, or there is a reduction
-abbrev pub MayFollow : List LogEvent → LogEvent → Type 0
-MayFollow events event = (n : ℕ) (zs : List ℤ) → event ≡ Step (Delete n zs) → IsTrue (is_among (moment_after events).learned n) → IsInReduction events
+-- the next event is no deletion of a learned clause, or this one may go
+abbrev pub MayFollow : Bool → List LogEvent → LogEvent → Type 0
+MayFollow tidies events event = (n : ℕ) (zs : List ℤ) → event ≡ Step (Delete n zs) → IsTrue (is_among (moment_after events).learned n) → MayGo tidies events n
 
-pub scheduled_then : (events : List LogEvent) (event : LogEvent) → IsScheduled events → MayFollow events event → IsScheduled (events ++ event ∷ [])
-scheduled_then events event on may front n zs later split among = elim (last_or_before events event front (Step (Delete n zs)) later split) [
-  | inl (these, is) ↦ subst IsInReduction these (may n zs is (subst (λ (es : List LogEvent). IsTrue (is_among (moment_after es).learned n)) (sym these) among))
+pub scheduled_then : (tidies : Bool) (events : List LogEvent) (event : LogEvent) → IsScheduledIn tidies events → MayFollow tidies events event → IsScheduledIn tidies (events ++ event ∷ [])
+scheduled_then tidies events event on may front n zs later split among = elim (last_or_before events event front (Step (Delete n zs)) later split) [
+  | inl (these, is) ↦ subst (λ (es : List LogEvent). MayGo tidies es n) these (may n zs is (subst (λ (es : List LogEvent). IsTrue (is_among (moment_after es).learned n)) (sym these) among))
   | inr (rest, is) ↦ on front n zs rest is among
 ]
 
-pub mark_may_follow : (events : List LogEvent) (k : ℕ) → MayFollow events (Conflict k)
-mark_may_follow events k n zs is among = cc
+pub mark_may_follow : (tidies : Bool) (events : List LogEvent) (k : ℕ) → MayFollow tidies events (Conflict k)
+mark_may_follow tidies events k n zs is among = cc
+
+pub goes_in_reduction : (tidies : Bool) (events : List LogEvent) (n : ℕ) → IsInReduction events → MayGo tidies events n
+goes_in_reduction false events n reducing = reducing
+goes_in_reduction true events n reducing = inl reducing
 
 -- ---- the formula's constraints
 no_deletion : (n k : ℕ) (cs : List Constraint) (front : List LogEvent) (i : ℕ) (zs : List ℤ) (later : List LogEvent) → original_events n k cs ≡ front ++ Step (Delete i zs) ∷ later → ⊥

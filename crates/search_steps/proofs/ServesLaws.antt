@@ -1,9 +1,9 @@
 -- Each step of the trail and of the tables keeps what the trail needs.
-use Rattle.std.proofs.Common.{◌≡◌, ◌≢◌, refl, sym, ap, ◌∙◌, subst, ℕ, suc, ◌-◌, ◌≤◌, ◌<◌, false, cond, nat_eq, eqb-true, List, [], ◌∷◌, length, Some, None, arith, ◌⊎◌, inl, inr}
+use Rattle.std.proofs.Common.{◌≡◌, ◌≢◌, refl, sym, ap, ◌∙◌, subst, ℕ, suc, ◌-◌, ◌≤◌, ◌<◌, Bool, false, cond, nat_eq, eqb-true, List, [], ◌∷◌, length, Some, None, arith, ◌⊎◌, inl, inr}
 use Rattle.std.proofs.lemmas.Bool.{eqb-false}
 use Rattle.std.specs.FinMap as map_
 use Rattle.cx_base.specs.Literals.{Literal, negate}
-use Rattle.cx_base.specs.Problem.{Problem, clauses_of}
+use Rattle.cx_base.specs.Problem.{Problem}
 use Rattle.cx_semantics.specs.Chain.{has_literal}
 use Rattle.cx_semantics.specs.Fresh.{Fresh}
 use Rattle.cx_semantics.specs.Tables.{Table, Tables, get, put_clause, put_parity, drop_clauses, drop_parities}
@@ -12,7 +12,7 @@ use Rattle.cx_semantics.proofs.Lookups.{Looks-insert, Looks-remove}
 use Rattle.search_steps.specs.Trail.{Entry, Why, decided, by_clause, by_row, held, all_held, level_of, IsTrail, IsSetBy, IsUnassigned}
 use Rattle.search_steps.specs.Quiet.{Quiet, RestsOn, HasNoClash, IsOfParities}
 use Rattle.search_steps.specs.LogSteps.{IsNoReason}
-use Rattle.search_steps.specs.Search.{Search, Serves, IsSearch, decided_on, forced_on, jumped, IsLearnedOf}
+use Rattle.search_steps.specs.Search.{Search, Serves, IsSearchIn, decided_on, forced_on, jumped, IsLearnedOf}
 use Rattle.conflict_learn.proofs.ChainOfResolutions.{by_cases}
 use Rattle.search_steps.proofs.Sets.{not_both, two_open_rests}
 use Rattle.search_steps.proofs.FreshLaws.{asserting_is_fresh}
@@ -65,17 +65,15 @@ module _ (formula : Problem) (parities : List (List Literal)) (trail : List Entr
   put_serves t n lits free rests s = record {
     stands = trail_by (IsOfParities formula.variables parities) t.clauses (map_.insert t.clauses n lits) trail (not_live_stays t.clauses n lits free) s.stands;
     quiet = λ k h. record { clauses = quiet_with t.clauses (held k trail) n lits (s.quiet k h).clauses (rests k h); rows = (s.quiet k h).rows };
-    keeps_clauses = λ clause c. let kept = s.keeps_clauses clause c in (kept.0, kept.1, not_live_stays t.clauses n lits free kept.0 clause kept.2);
     keeps_parities = s.keeps_parities;
   }
 
-  -- a clause less: none of the formula's and no reason
-  pub drop_serves : (t : Tables) (n : ℕ) → length (clauses_of formula.constraints) < n → IsNoReason n trail
+  -- a clause less, which is no reason
+  pub drop_serves : (t : Tables) (n : ℕ) → IsNoReason n trail
       → Serves formula parities t trail levels → Serves formula parities (drop_clauses t (n ∷ [])) trail levels
-  drop_serves t n high no_reason s = record {
+  drop_serves t n no_reason s = record {
     stands = trail_without (IsOfParities formula.variables parities) t.clauses n trail no_reason s.stands;
     quiet = λ k h. record { clauses = quiet_without t.clauses (held k trail) n (s.quiet k h).clauses; rows = (s.quiet k h).rows };
-    keeps_clauses = λ clause c. let kept = s.keeps_clauses clause c in (kept.0, kept.1, other_stays t.clauses n kept.0 clause (omega (arith, kept.1, high)) kept.2);
     keeps_parities = s.keeps_parities;
   }
 
@@ -83,7 +81,6 @@ module _ (formula : Problem) (parities : List (List Literal)) (trail : List Entr
   put_parity_serves t n lits free s = record {
     stands = s.stands;
     quiet = s.quiet;
-    keeps_clauses = s.keeps_clauses;
     keeps_parities = λ parity c. let kept = s.keeps_parities parity c in (kept.0, kept.1, not_live_stays t.parities n lits free kept.0 parity kept.2);
   }
 
@@ -91,16 +88,15 @@ module _ (formula : Problem) (parities : List (List Literal)) (trail : List Entr
   drop_parity_serves t n high s = record {
     stands = s.stands;
     quiet = s.quiet;
-    keeps_clauses = s.keeps_clauses;
     keeps_parities = λ parity c. let kept = s.keeps_parities parity c in (kept.0, kept.1, other_stays t.parities n kept.0 parity (omega (arith, kept.1, high)) kept.2);
   }
 
-module _ (formula : Problem) (parities : List (List Literal)) (s : Search) (ok : IsSearch formula parities s) where
+module _ {tidies : Bool} (formula : Problem) (parities : List (List Literal)) (s : Search) (ok : IsSearchIn tidies formula parities s) where
   table : Table
   table = s.moment.tables.clauses
 
   -- ---- a decision, where both engines are quiet
-  pub decide_keeps : (l : Literal) → s.quiet_levels ≡ level_of s.trail → Quiet formula.variables parities s.moment.tables.clauses (all_held s.trail) → IsUnassigned (all_held s.trail) l → IsSearch formula parities (decided_on s l)
+  pub decide_keeps : (l : Literal) → s.quiet_levels ≡ level_of s.trail → Quiet formula.variables parities s.moment.tables.clauses (all_held s.trail) → IsUnassigned (all_held s.trail) l → IsSearchIn tidies formula parities (decided_on s l)
   decide_keeps l levels quiet_now is_open = record {
     log = ok.log;
     serves = record {
@@ -111,9 +107,10 @@ module _ (formula : Problem) (parities : List (List Literal)) (s : Search) (ok :
             | inl less ↦ ok.serves.quiet k (omega (arith, levels, less))
             | inr same ↦ subst (Quiet formula.variables parities s.moment.tables.clauses) (sym (held_all s.moment.tables.clauses (IsOfParities formula.variables parities) k s.trail ok.serves.stands (omega (arith, same)))) quiet_now
           ]);
-      keeps_clauses = ok.serves.keeps_clauses;
       keeps_parities = ok.serves.keeps_parities;
     };
+    covered = ok.covered;
+    plain = ok.plain;
   }
     where
       less : (a b : ℕ) → a < suc b → nat_eq a b ≡ false → a < b
@@ -124,28 +121,30 @@ module _ (formula : Problem) (parities : List (List Literal)) (s : Search) (ok :
 
   -- ---- a literal that a clause or a row forces
   pub force_keeps : (l : Literal) (why : Why) → s.quiet_levels ≤ level_of s.trail → IsUnassigned (all_held s.trail) l
-      → IsSetBy s.moment.tables.clauses (IsOfParities formula.variables parities) why l (level_of s.trail) s.trail → IsSearch formula parities (forced_on s l why)
+      → IsSetBy s.moment.tables.clauses (IsOfParities formula.variables parities) why l (level_of s.trail) s.trail → IsSearchIn tidies formula parities (forced_on s l why)
   force_keeps l why levels is_open stands = record {
     log = ok.log;
     serves = record {
       stands = (is_open, stands, ok.serves.stands);
       quiet = λ k h. subst (Quiet formula.variables parities s.moment.tables.clauses)
           (sym (held_over k (record { literal = l; level = level_of s.trail; why = why }) s.trail (omega (arith, h, levels)))) (ok.serves.quiet k h);
-      keeps_clauses = ok.serves.keeps_clauses;
       keeps_parities = ok.serves.keeps_parities;
     };
+    covered = ok.covered;
+    plain = ok.plain;
   }
 
   -- ---- back to a level up to which all levels are quiet
-  pub jump_keeps : (back : ℕ) → back ≤ s.quiet_levels → IsSearch formula parities (jumped s back)
+  pub jump_keeps : (back : ℕ) → back ≤ s.quiet_levels → IsSearchIn tidies formula parities (jumped s back)
   jump_keeps back low = record {
     log = ok.log;
     serves = record {
       stands = back_is_trail s.moment.tables.clauses (IsOfParities formula.variables parities) back s.trail ok.serves.stands;
       quiet = λ k h. subst (Quiet formula.variables parities s.moment.tables.clauses) (sym (held_back k back s.trail (omega (arith, h)))) (ok.serves.quiet k (omega (arith, h, low)));
-      keeps_clauses = ok.serves.keeps_clauses;
       keeps_parities = ok.serves.keeps_parities;
     };
+    covered = ok.covered;
+    plain = ok.plain;
   }
 
   no_clash : HasNoClash (all_held s.trail)

@@ -15,7 +15,7 @@ use Rattle.cx_semantics.specs.Chain.{same_literals}
 use Rattle.cx_base.specs.Integers.{integer_of, literals, integers_of, is_negative}
 use Rattle.cx_semantics.specs.LogRules.{log_calculus, IsOriginalParity, is_original}
 use Rattle.cx_base.specs.Events.{steps_of, step_of}
-use Rattle.cx_semantics.specs.Marked.{first_moment, mark_of, original_events}
+use Rattle.cx_semantics.specs.Marked.{is_among, first_moment, mark_of, original_events}
 use Rattle.cx_semantics.specs.Tables.{Table, get}
 use Rattle.cx_semantics.proofs.Closure.{inside_itself}
 use Rattle.cx_semantics.proofs.JudgingLaws.{runs_push}
@@ -23,6 +23,7 @@ use Rattle.cx_semantics.proofs.Lookups.{Looks-insert, Looks-empty}
 use Rattle.cx_semantics.proofs.MarkedLaws.{events_go_on}
 use Rattle.search_steps.proofs.HintLaws.{originals_are_hinted}
 use Rattle.search_steps.proofs.ScheduleLaws.{originals_are_scheduled}
+use Rattle.search_steps.specs.Covers.{ArePlain, rows_in}
 use Rattle.search_steps.specs.Search.{Search, IsSearch, told}
 use Rattle.search_steps.specs.Start.{start, HasFirst, IsBegun}
 use Rattle.conflict_learn.proofs.ChainOfResolutions.{by_cases}
@@ -262,10 +263,16 @@ begun_is_search formula s apart b = record {
   serves = record {
     stands = subst (Rattle.search_steps.specs.Trail.IsTrail s.moment.tables.clauses (Rattle.search_steps.specs.Quiet.IsOfParities formula.variables (parities_of formula.constraints))) (sym b.no_trail) tt;
     quiet = λ k h. let none = b.no_level in absurd (omega (arith, h, none));
-    keeps_clauses = λ clause c. b.clauses.live clause c;
     keeps_parities = λ parity c. b.parities.live parity c;
   };
+  covered = λ clause c.
+      let kept = b.clauses.live clause c in
+      inr (kept.0, record { inner = clause; live = kept.2; inside = inside_itself clause; no_row = ap (λ ids. is_among ids kept.0) no_rows });
+  plain = subst (ArePlain s.moment.tables.clauses) (sym b.no_learned) tt;
 }
+  where
+    no_rows : rows_in s.moment ≡ []
+    no_rows = ap (λ ids. ids ++ s.moment.old_clauses) b.tidy.no_new_clauses ∙ b.tidy.no_old_clauses
 
 -- ---- a recovered parity joins the engine's, before the first decision
 pub recovered_joins : (formula : Problem) (parities : List (List Literal)) (s : Search) → IsSearch formula parities s → s.trail ≡ [] → s.quiet_levels ≡ 0 → (n : ℕ) (zs : List ℤ) (ids : List ℕ) → n ≤ length parities + 1
@@ -276,7 +283,6 @@ recovered_joins formula parities s ok no_trail no_level n zs ids low free is_rig
   serves = record {
     stands = subst (Rattle.search_steps.specs.Trail.IsTrail s.moment.tables.clauses (Rattle.search_steps.specs.Quiet.IsOfParities formula.variables (parities ++ literals zs ∷ []))) (sym no_trail) tt;
     quiet = λ k h. absurd (omega (arith, h, no_level));
-    keeps_clauses = ok.serves.keeps_clauses;
     keeps_parities = λ parity c. elim (contains_pushed parities (literals zs) parity c) [
       | inl old ↦
           let kept = ok.serves.keeps_parities parity old in
@@ -292,4 +298,6 @@ recovered_joins formula parities s ok no_trail no_level n zs ids low free is_rig
           )
     ];
   };
+  covered = ok.covered;
+  plain = ok.plain;
 }

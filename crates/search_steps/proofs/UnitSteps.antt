@@ -51,9 +51,10 @@ unit_rests_keeps formula parities s ok n z hints newer older e same low is a rig
       serves = record {
         stands = trail_rests_on after IsRow newer older e n low put (subst (IsTrail after IsRow) same ok1.serves.stands);
         quiet = λ k h. subst (Quiet formula.variables parities after) (ap (held k) same ∙ sym (held_same k newer older e n)) (ok1.serves.quiet k h);
-        keeps_clauses = ok1.serves.keeps_clauses;
         keeps_parities = ok1.serves.keeps_parities;
       };
+      covered = ok1.covered;
+      plain = ok1.plain;
     }
 
 -- ---- quiet from what the watches answer

@@ -1,5 +1,5 @@
 -- The laws of the search's steps.
-use Rattle.std.specs.Prelude.{◌≡◌, ℕ, ◌+◌, ◌*◌, ◌≤◌, ◌<◌, ℤ, pos, Bool, not, List, [], ◌∷◌, ◌++◌, length, Option, Some, None, IsTrue, IsFalse, Contains}
+use Rattle.std.specs.Prelude.{◌≡◌, ℕ, ◌+◌, ◌*◌, ◌≤◌, ◌<◌, ℤ, pos, Bool, true, not, List, [], ◌∷◌, ◌++◌, length, Option, Some, None, IsTrue, IsFalse, Contains, map}
 use Rattle.std.specs.List.{list_all, AllByRecursion}
 use Rattle.cx_base.specs.Literals.{Literal, literal_true, negate}
 use Rattle.cx_base.specs.Assumptions.{assumes, clashes, IsFailed}
@@ -38,10 +38,13 @@ use Rattle.search_steps.specs.Propagated.{IsPropagated}
 use Rattle.search_steps.specs.Quiet.{HasNoClash, RestsOn, IsOfParities, IsWatchedWell, ParitiesQuiet, ClausesQuiet, Quiet}
 use Rattle.search_steps.specs.Schedule.{IsInReduction}
 use Rattle.search_steps.specs.Recovering.{IsParityOf, HasRecovered, SettledWithRecovered}
-use Rattle.search_steps.specs.Search.{Search, IsSearch, IsServed, IsTidy, IsLearnedOf, told, decided_on, forced_on, jumped, marked}
+use Rattle.search_steps.specs.Search.{Search, IsSearch, IsSearchIn, IsServed, IsTidy, IsLearnedOf, told, decided_on, forced_on, jumped, marked}
 use Rattle.search_steps.specs.Start.{IsBegun, start}
 use Rattle.search_steps.specs.Tied.{IsTied, AreForcedBehind, IsLiveSet, IsLiveOr, Mirrors, ForcesOn, IsQuietOn, AreOthersFalseOn, IsFalsifiedOn}
 use Rattle.cx_base.specs.Lines.{Line}
+use Rattle.tidy_rules.specs.Runs.{KeepsFree, RunsTidily, EndsTidily}
+use Rattle.search_steps.specs.Covers.{IsCover, IsSpared, rows_in}
+use Rattle.search_steps.specs.TidySteps.{IsAtStart, SpareReasons, IsEndedTidily, steps_told}
 use Rattle.search_steps.specs.TidyLines.{TidiedInTime, LineFits, marks_in, tidy_lines_in}
 use Rattle.search_steps.specs.Size.{additions}
 use Rattle.search_steps.specs.Trail.{Entry, by_clause, by_row, rests_on, held, all_held, back_to, level_of, IsUnassigned, Forces}
@@ -184,12 +187,12 @@ LearnedClausesKeep = OfSearch (λ formula parities s.
 -- deleting temporary clauses one after another keeps the search
 abbrev pub DeletionsKeep : Type 0
 DeletionsKeep = OfSearch (λ formula parities s.
-    (ids : List ℕ) → AreTemporary formula s ids → IsSearch formula parities (deleted s ids))
+    (ids : List ℕ) → AreTemporary s ids → IsSearch formula parities (deleted s ids))
 
--- deleting a learned clause that is no reason keeps the search, where enough are left, in a reduction
+-- deleting a learned clause that is no reason keeps the search, where the formula's clauses are covered without it and enough are left, in a reduction
 abbrev pub LearnedDeletionsKeep : Type 0
 LearnedDeletionsKeep = OfSearch (λ formula parities s.
-    (n : ℕ) (zs : List ℤ) → length (clauses_of formula.constraints) < n → IsNoReason n s.trail → 1000 + 250 * s.moment.reductions ≤ length (without s.moment.learned n)
+    (n : ℕ) (zs : List ℤ) → IsSpared formula s.moment n → IsNoReason n s.trail → 1000 + 250 * s.moment.reductions ≤ length (without s.moment.learned n)
     → IsInReduction s.events → IsSearch formula parities (told s (Step (Delete n zs))))
 
 -- a whole conflict keeps the search: the mark, the learned clause with right hints, the deletions, the jump back, and the literal that the clause forces
@@ -431,7 +434,16 @@ NextIdsAreFree = OfRanges (λ formula bound next row_next s.
 
 -- clauses of rows may go: none is a reason, and none is learned
 abbrev pub RowIdsAreTemporary : Type 0
-RowIdsAreTemporary = OfRanges (λ formula bound next row_next s. (ids : List ℕ) → AreRowIds bound row_next ids → AreTemporary formula s ids)
+RowIdsAreTemporary = OfRanges (λ formula bound next row_next s. (ids : List ℕ) → AreRowIds bound row_next ids → AreTemporary s ids)
+
+-- without a clause from the bound on each clause of the formula is covered still
+abbrev pub HighIsSpared : Type 0
+HighIsSpared = OfRanges (λ formula bound next row_next s. (parities : List (List Literal)) → IsSearch formula parities s → (n : ℕ) → bound ≤ n → IsSpared formula s.moment n)
+
+-- a clause below the bound covers each that it lies inside
+abbrev pub LowIsCover : Type 0
+LowIsCover = OfRanges (λ formula bound next row_next s.
+    (n : ℕ) (inner clause : List Literal) → n < bound → get s.moment.tables.clauses n ≡ Some inner → IsTrue (is_inside inner clause) → IsCover s.moment.tables.clauses (rows_in s.moment) clause n)
 
 -- no clause from the bound on is a reason where reasons are below it
 abbrev pub HighIsNoReason : Type 0
@@ -462,6 +474,34 @@ StepsAddFew = (s : Search) →
     ((k : ℕ) (rs : List ℤ) (ids : List ℕ) (n : ℕ) (zs : List ℤ) → additions (all_told s (row_events k rs ids n zs)).events ≡ additions s.events + 2)
     × ((ids : List ℕ) → additions (deleted s ids).events ≡ additions s.events)
     × ((n : ℕ) (zs hints : List ℤ) (back : ℕ) (l : Literal) → additions (after_round s n zs hints back l).events ≡ additions s.events + 1)
+
+-- ---- tidyings
+-- a law of each search that tidies and holds
+abbrev pub OfTidying : (Problem → List (List Literal) → Search → Type 0) → Type 0
+OfTidying Law = (formula : Problem) (parities : List (List Literal)) (s : Search) → IsSearchIn true formula parities s → Law formula parities s
+
+-- At a restart the steps of a tidying keep the search, where they delete no reason. The tables are those that the steps lead to.
+abbrev pub TidyStepsKeep : Type 0
+TidyStepsKeep = OfTidying (λ formula parities s.
+    IsAtStart s → (steps : List LogStep) (last : Tables) → RunsTidily formula s.moment.tables steps last → SpareReasons s.trail steps
+    → IsSearchIn true formula parities (steps_told s steps) × IsAtStart (steps_told s steps) × ((steps_told s steps).moment.tables ≡ last))
+
+-- Where the last of them ends the log, it is right to its end, marked as before, on schedule and hinted, and the negations of the last clause's literals are assumed.
+abbrev pub TidyStepsEnd : Type 0
+TidyStepsEnd = OfTidying (λ formula parities s.
+    IsAtStart s → (lits : List Literal) (steps : List LogStep) → EndsTidily formula s.moment.tables lits steps → SpareReasons s.trail steps
+    → IsEndedTidily formula (s.events ++ map Step steps) s.conflicts lits)
+
+-- They keep the ranges of ids, where what was free is free in the end.
+abbrev pub TidyStepsKeepRanges : Type 0
+TidyStepsKeepRanges = OfRanges (λ formula bound next row_next s.
+    IsAtStart s → (steps : List LogStep) (last : Tables) → RunsTidily formula s.moment.tables steps last → KeepsFree s.moment.tables.clauses last.clauses
+    → IsRanged formula bound next row_next s.trail (steps_told s steps).moment)
+
+-- and the ids of sums
+abbrev pub TidyStepsKeepSums : Type 0
+TidyStepsKeepSums =
+    (formula : Problem) (count : ℕ) (s : Search) → HasFreeSums count s.moment → (steps : List LogStep) (last : Tables) → RunsTidily formula s.moment.tables steps last → HasFreeSums count (steps_told s steps).moment
 
 -- ---- tidy lines
 -- one more line that fits

@@ -3,9 +3,8 @@ use Rattle.std.specs.Prelude.{◌≡◌, ℕ, ◌<◌, ℤ, nat_abs, nat_lt, fal
 use Rattle.std.specs.List.{list_any, AllByRecursion}
 use Rattle.cx_base.specs.Literals.{Literal}
 use Rattle.cx_base.specs.Parity.{normal_form, HasOneOfEach}
-use Rattle.cx_base.specs.Problem.{Problem, clauses_of, clause_met, parity_met, AreWithin}
-use Rattle.cx_semantics.specs.Chain.{has_literal, negations}
-use Rattle.cx_semantics.specs.Fresh.{IsLive}
+use Rattle.cx_base.specs.Problem.{Problem, clause_met, parity_met, AreWithin}
+use Rattle.cx_semantics.specs.Chain.{negations}
 use Rattle.cx_semantics.specs.Implied.{Implies}
 use Rattle.cx_base.specs.Integers.{literals}
 use Rattle.cx_semantics.specs.LogRules.{AreLive, derived_clause, derives_ending_clause, log_calculus}
@@ -19,7 +18,8 @@ use Rattle.cx_base.specs.declared.steps.LogEvent.{LogEvent}
 use Rattle.cx_base.specs.declared.steps.LogEvent.TheVariants.{Step}
 use Rattle.cx_base.specs.declared.steps.LogStep.TheVariants.{ClauseWithHints, Parity, ClauseOfParity, DeleteParity, Delete}
 use Rattle.cx_semantics.specs.Tables.{Table, Tables, get, named}
-use Rattle.search_steps.specs.Trail.{Entry, rests_on, by_clause, held, all_held, Forces}
+use Rattle.search_steps.specs.Trail.{Entry, rests_on, by_clause}
+use Rattle.search_steps.specs.Covers.{CoversNone}
 use Rattle.search_steps.specs.Search.{Search, told, marked, jumped, forced_on}
 
 -- the variables of the step's integers are the formula's, and its id is free
@@ -66,9 +66,9 @@ abbrev pub IsNoReason : ℕ → List Entry → Type 0
 IsNoReason n [] = ⊤
 IsNoReason n (e ∷ es) = (e.why ≡ by_clause n → ⊥) × IsNoReason n es
 
--- ids of clauses that may go: none of the formula's, none learned, and none a reason
-abbrev pub AreTemporary : Problem → Search → List ℕ → Type 0
-AreTemporary formula s ids = AllByRecursion (λ n. (length (clauses_of formula.constraints) < n) × (is_among s.moment.learned n ≡ false) × IsNoReason n s.trail) ids
+-- ids of clauses that may go: none covers one of the formula, none is learned, and none a reason
+abbrev pub AreTemporary : Search → List ℕ → Type 0
+AreTemporary s ids = AllByRecursion (λ n. CoversNone s.moment n × (is_among s.moment.learned n ≡ false) × IsNoReason n s.trail) ids
 
 -- the search after these ids were deleted one after another
 abbrev pub deleted : Search → List ℕ → Search

@@ -1,10 +1,10 @@
 -- When a search deletes learned clauses, by the events of its log.
-use Rattle.std.specs.Prelude.{◌≡◌, ℕ, ◌+◌, ◌*◌, ◌≤◌, ◌<◌, ℤ, List, [], ◌∷◌, ◌++◌, length, map, fold, filter_map, get_or, IsTrue}
+use Rattle.std.specs.Prelude.{◌≡◌, ◌⊎◌, ℕ, ◌+◌, ◌*◌, ◌≤◌, ◌<◌, ℤ, Bool, true, false, List, [], ◌∷◌, ◌++◌, length, map, fold, filter_map, get_or, IsTrue}
 use Rattle.std.specs.List.{sum}
 use Rattle.cx_base.specs.declared.steps.LogEvent.{LogEvent}
 use Rattle.cx_base.specs.declared.steps.LogEvent.TheVariants.{Step}
 use Rattle.cx_base.specs.declared.steps.LogStep.TheVariants.{Delete}
-use Rattle.cx_semantics.specs.Marked.{Moment, first_moment, after_event, mark_of, is_among}
+use Rattle.cx_semantics.specs.Marked.{Moment, first_moment, after_event, mark_of, clause_at, is_among, is_covered_without}
 use Rattle.search_policy.specs.Restarts.{IsLuby}
 
 -- the first of Luby's numbers, in order
@@ -43,3 +43,19 @@ pub record IsInReduction (events : List LogEvent) : Type 0 where
 abbrev pub IsScheduled : List LogEvent → Type 0
 IsScheduled events = (front : List LogEvent) (n : ℕ) (zs : List ℤ) (later : List LogEvent) → events ≡ front ++ Step (Delete n zs) ∷ later
     → IsTrue (is_among (moment_after front).learned n) → IsInReduction front
+
+-- ---- searches that tidy
+-- A tidying deletes a clause at a restart. Another live clause lies inside it.
+pub record IsInTidying (events : List LogEvent) (n : ℕ) : Type 0 where
+  pub restart : IsRestart (length (filter_map mark_of events))
+  pub covered : IsTrue (is_covered_without (moment_after events).tables.clauses n (clause_at (moment_after events).tables.clauses n))
+
+-- a learned clause may go in a reduction, and in a tidying where the search tidies
+abbrev pub MayGo : Bool → List LogEvent → ℕ → Type 0
+MayGo false events n = IsInReduction events
+MayGo true events n = IsInReduction events ⊎ IsInTidying events n
+
+-- each learned clause is deleted where it may go
+abbrev pub IsScheduledIn : Bool → List LogEvent → Type 0
+IsScheduledIn tidies events = (front : List LogEvent) (n : ℕ) (zs : List ℤ) (later : List LogEvent) → events ≡ front ++ Step (Delete n zs) ∷ later
+    → IsTrue (is_among (moment_after front).learned n) → MayGo tidies front n

@@ -1,8 +1,8 @@
 -- The search as a calculus: what it holds, and what holds of it between two steps.
-use Rattle.std.specs.Prelude.{◌≡◌, ℕ, suc, ◌+◌, ◌≤◌, ◌<◌, ◌-◌, List, [], ◌∷◌, ◌++◌, length, Some, IsTrue, IsFalse, Contains, filter_map, ◌⊎◌}
+use Rattle.std.specs.Prelude.{◌≡◌, ℕ, suc, ◌+◌, ◌≤◌, ◌<◌, ◌-◌, Bool, false, List, [], ◌∷◌, ◌++◌, length, Some, IsTrue, IsFalse, Contains, filter_map, ◌⊎◌}
 use Rattle.std.specs.List.{range_with_len}
 use Rattle.cx_base.specs.Literals.{Literal, negate, same_literal}
-use Rattle.cx_base.specs.Problem.{Problem, clauses_of}
+use Rattle.cx_base.specs.Problem.{Problem}
 use Rattle.cx_base.specs.declared.steps.LogEvent.{LogEvent}
 use Rattle.cx_base.specs.declared.steps.LogEvent.TheVariants.{Conflict}
 use Rattle.cx_base.specs.Assumptions.{clashes}
@@ -11,12 +11,12 @@ use Rattle.cx_semantics.specs.Judging.{Runs}
 use Rattle.cx_semantics.specs.LogRules.{log_calculus}
 use Rattle.cx_base.specs.Events.{steps_of}
 use Rattle.cx_semantics.specs.Marked.{Moment, first_moment, after_event, EventsFit, mark_of, BeginsWithOriginals}
-use Rattle.cx_semantics.specs.Settled.{IsClauseOf}
 use Rattle.cx_semantics.specs.Tables.{Tables, get, no_tables}
 use Rattle.search_steps.specs.Trail.{Entry, Why, decided, held, back_to, level_of, IsTrail}
 use Rattle.search_steps.specs.Quiet.{QuietBelow, IsOfParities, IsAsserting}
 use Rattle.search_steps.specs.Hints.{AreHinted}
-use Rattle.search_steps.specs.Schedule.{IsScheduled}
+use Rattle.search_steps.specs.Schedule.{IsScheduledIn}
+use Rattle.search_steps.specs.Covers.{AreCovered, ArePlain, rows_in}
 
 -- the events of the log so far and the moment that they lead to; the trail; how many of the lowest levels are known to be quiet; the counted conflicts
 pub record Search : Type 0 where
@@ -26,27 +26,32 @@ pub record Search : Type 0 where
   pub quiet_levels : ℕ
   pub conflicts : ℕ
 
--- no assumptions clash, the log's steps and hints are right so far, its events fit, and learned clauses are deleted on schedule
-pub record IsLog (formula : Problem) (events : List LogEvent) (moment : Moment) (conflicts : ℕ) : Type 0 where
+-- no assumptions clash, the log's steps and hints are right so far, its events fit, and learned clauses are deleted on schedule, or by a tidying where the search tidies
+pub record IsLog (tidies : Bool) (formula : Problem) (events : List LogEvent) (moment : Moment) (conflicts : ℕ) : Type 0 where
   pub apart : IsFalse (clashes formula.constraints)
   pub runs : Runs (log_calculus formula) no_tables (steps_of events) moment.tables
   pub fits : EventsFit formula first_moment events moment
   pub marks : filter_map mark_of events ≡ range_with_len 1 conflicts
   pub originals : BeginsWithOriginals formula.constraints events
-  pub scheduled : IsScheduled events
+  pub scheduled : IsScheduledIn tidies events
   pub hinted : AreHinted events
 
--- What the trail needs of the tables: reasons are live, the quiet levels are quiet still, and the formula's clauses and the engine's parities are live under the first ids.
+-- What the trail needs of the tables: reasons are live, the quiet levels are quiet still, and the engine's parities are live under the first ids.
 pub record Serves (formula : Problem) (parities : List (List Literal)) (tables : Tables) (trail : List Entry) (levels : ℕ) : Type 0 where
   pub stands : IsTrail tables.clauses (IsOfParities formula.variables parities) trail
   pub quiet : QuietBelow formula.variables parities tables.clauses trail levels
-  pub keeps_clauses : (clause : List Literal) → IsClauseOf formula clause → (n : ℕ) × (n ≤ length (clauses_of formula.constraints)) × (get tables.clauses n ≡ Some clause)
   pub keeps_parities : (parity : List Literal) → Contains parities parity → (n : ℕ) × (n ≤ length parities) × (get tables.parities n ≡ Some parity)
 
--- what holds of the search between two steps
-pub record IsSearch (formula : Problem) (parities : List (List Literal)) (s : Search) : Type 0 where
-  pub log : IsLog formula s.events s.moment s.conflicts
+-- what holds of the search between two steps: each clause of the formula is a tautology or has a live one inside it, and no learned one is a tautology
+pub record IsSearchIn (tidies : Bool) (formula : Problem) (parities : List (List Literal)) (s : Search) : Type 0 where
+  pub log : IsLog tidies formula s.events s.moment s.conflicts
   pub serves : Serves formula parities s.moment.tables s.trail s.quiet_levels
+  pub covered : AreCovered formula s.moment.tables.clauses (rows_in s.moment)
+  pub plain : ArePlain s.moment.tables.clauses s.moment.learned
+
+-- so it is with a search that never tidies
+abbrev pub IsSearch : Problem → List (List Literal) → Search → Type 0
+IsSearch formula parities s = IsSearchIn false formula parities s
 
 -- before a mark: no clause is owed, and nothing temporary is left from before the last mark
 pub record IsServed (s : Search) : Type 0 where

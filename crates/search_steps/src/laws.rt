@@ -1,5 +1,5 @@
 //! The laws of the search's steps. Each function's contract is the law, and its body is empty.
-ghost use Rattle.search_steps.specs.Laws.{AnswersHold, AssignedValuesHold, AssumptionsAreNotTold, BegunIsRanged, BegunIsSearch, BoundsRise, ChainedClausesEnd, ClauseConflictsAreNow, ClauseStepsKeep, DecisionsKeep, DeletionsKeep, EndedIsUnmet, FalsifiedHasChain, FinalIsHinted, ForcedIsImplied, FreshEnginesHold, FullIsMet, HighIsNoReason, HighIsNotAmong, ImpliedClausesRest, JumpsKeep, JumpsStayTied, KnownIsTrue, LargerClausesRest, LastStepsEnd, LaterEntriesGo, LearnedClausesKeep, LearnedDeletionsKeep, LearnedIsHinted, MarksKeep, NewLevelsHold, NextIdsAreFree, NoValueIsOpen, NothingIsBegun, OpenHasNoValue, OriginalClausesAreTold, OriginalParitiesAreTold, OtherTrailsKeepRanges, PropagationsKeep, RecoveredParitiesJoin, RecoveredTakesOne, RoundsAreTidy, RoundsKeep, RoundsKeepRanges, RoundsStayTied, RowClausesEnd, RowClausesKeep, RowConflictsAreNow, RowIdsAreTemporary, RowReasonsKeep, RowReasonsServe, RowStepsKeep, RowsAreOfParities, SearchesAreOpen, SettledWantsNoDecision, SilentIsQuiet, StepsAddFew, StoredForces, StoredIsFalse, StoredRests, SumDeletionsKeep, SumsAreFreeAgain, SumsAreFreeAtFirst, SumsKeep, TaughtIsLearned, TheirsAreHad, TidyLinesComeLate, TidyLinesGoOn, ToldStepsKeepRanges, TrailStepsKeepRanges, TrailsHaveNoClash, UnitParitiesKeep, UnitsBesideKeep, UnitsKeep, ValuesTakenBackHold, WatchedIsQuiet};
+ghost use Rattle.search_steps.specs.Laws.{AnswersHold, AssignedValuesHold, AssumptionsAreNotTold, BegunIsRanged, BegunIsSearch, BoundsRise, ChainedClausesEnd, ClauseConflictsAreNow, ClauseStepsKeep, DecisionsKeep, DeletionsKeep, EndedIsUnmet, FalsifiedHasChain, FinalIsHinted, ForcedIsImplied, FreshEnginesHold, FullIsMet, HighIsNoReason, HighIsNotAmong, HighIsSpared, ImpliedClausesRest, JumpsKeep, JumpsStayTied, KnownIsTrue, LargerClausesRest, LastStepsEnd, LaterEntriesGo, LearnedClausesKeep, LearnedDeletionsKeep, LearnedIsHinted, LowIsCover, MarksKeep, NewLevelsHold, NextIdsAreFree, NoValueIsOpen, NothingIsBegun, OpenHasNoValue, OriginalClausesAreTold, OriginalParitiesAreTold, OtherTrailsKeepRanges, PropagationsKeep, RecoveredParitiesJoin, RecoveredTakesOne, RoundsAreTidy, RoundsKeep, RoundsKeepRanges, RoundsStayTied, RowClausesEnd, RowClausesKeep, RowConflictsAreNow, RowIdsAreTemporary, RowReasonsKeep, RowReasonsServe, RowStepsKeep, RowsAreOfParities, SearchesAreOpen, SettledWantsNoDecision, SilentIsQuiet, StepsAddFew, StoredForces, StoredIsFalse, StoredRests, SumDeletionsKeep, SumsAreFreeAgain, SumsAreFreeAtFirst, SumsKeep, TaughtIsLearned, TheirsAreHad, TidyLinesComeLate, TidyLinesGoOn, TidyStepsEnd, TidyStepsKeep, TidyStepsKeepRanges, TidyStepsKeepSums, ToldStepsKeepRanges, TrailStepsKeepRanges, TrailsHaveNoClash, UnitParitiesKeep, UnitsBesideKeep, UnitsKeep, ValuesTakenBackHold, WatchedIsQuiet};
 
 /// At the start nothing is told.
 pub fn nothing_is_begun()
@@ -111,7 +111,7 @@ pub fn deletions_keep()
     ensures { DeletionsKeep }
 {}
 
-/// Deleting a learned clause that is no reason keeps the search, where enough are left.
+/// Deleting a learned clause that is no reason keeps the search, where the formula's clauses are covered without it and enough are left.
 pub fn learned_deletions_keep()
     ensures { LearnedDeletionsKeep }
 {}
@@ -336,6 +336,16 @@ pub fn next_ids_are_free()
     ensures { NextIdsAreFree }
 {}
 
+/// Without a clause from the bound on each clause of the formula is covered still.
+pub fn high_is_spared()
+    ensures { HighIsSpared }
+{}
+
+/// A clause below the bound covers each that it lies inside.
+pub fn low_is_cover()
+    ensures { LowIsCover }
+{}
+
 /// Clauses of rows may go: none is a reason, and none is learned.
 pub fn row_ids_are_temporary()
     ensures { RowIdsAreTemporary }
@@ -369,6 +379,26 @@ pub fn sums_are_free_again()
 /// What the steps of a search add to its log.
 pub fn steps_add_few()
     ensures { StepsAddFew }
+{}
+
+/// At a restart the steps of a tidying keep the search, where they delete no reason.
+pub fn tidy_steps_keep()
+    ensures { TidyStepsKeep }
+{}
+
+/// Where the last of them ends the log, it is right to its end, marked as before, on schedule and hinted, and the negations of the last clause's literals are assumed.
+pub fn tidy_steps_end()
+    ensures { TidyStepsEnd }
+{}
+
+/// They keep the ranges of ids, where what was free is free in the end.
+pub fn tidy_steps_keep_ranges()
+    ensures { TidyStepsKeepRanges }
+{}
+
+/// They keep the ids of sums free.
+pub fn tidy_steps_keep_sums()
+    ensures { TidyStepsKeepSums }
 {}
 
 /// Lines that are tidied in time go on by one that fits them.

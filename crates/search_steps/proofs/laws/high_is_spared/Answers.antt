@@ -1,0 +1,5 @@
+use Rattle.search_steps.proofs.IdLaws.{high_is_spared}
+use Rattle.search_steps.proofs.laws.high_is_spared.Goals as goal
+
+pub returns : goal.returns
+returns c = high_is_spared
