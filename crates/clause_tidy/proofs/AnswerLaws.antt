@@ -33,22 +33,22 @@ module _ {L : Type 0} (m : sink.Ghosts L LogEvent) (formula : Problem) (spare : 
 
   -- the same of what the sink was told
   pub told_when_done : (P : List Literal → List ℕ → List LogStep → Type 0) → ((units : List Literal) (ids : List ℕ) (steps : List LogStep) → IsTidied formula spare a b units ids steps → P units ids steps)
-      → (result : Result TidyOf SinkFault) → Told result → IfDone result (λ units ids. IsTold m old (P units ids) new)
-  told_when_done P f (Ok (Done units ids)) t = (t.steps, t.told, f units ids t.steps t.done)
+      → (result : Result TidyOf SinkFault) → Told result → IfDone result (λ units ids. IsTold m spare a old (P units ids) new)
+  told_when_done P f (Ok (Done units ids)) t = (t.steps, t.told, t.own, f units ids t.steps t.done)
   told_when_done P f (Ok (Ended lits)) t = tt
   told_when_done P f (Err fault) t = tt
 
   pub told_when_ended : (P : List Literal → List LogStep → Type 0) → ((lits : List Literal) (steps : List LogStep) → IsEnded formula spare a lits steps → P lits steps) → (result : Result TidyOf SinkFault) → Told result
-      → IfEnded result (λ lits. IsTold m old (P lits) new)
+      → IfEnded result (λ lits. IsTold m spare a old (P lits) new)
   told_when_ended P f (Ok (Done units ids)) t = tt
-  told_when_ended P f (Ok (Ended lits)) t = (t.steps, t.told, f lits t.steps t.done)
+  told_when_ended P f (Ok (Ended lits)) t = (t.steps, t.told, t.own, f lits t.steps t.done)
   told_when_ended P f (Err fault) t = tt
 
-  pub told_on_err : (result : Result TidyOf SinkFault) → Told result → OnErr result (IsTold m old (IsRightFrom formula spare a) new)
+  pub told_on_err : (result : Result TidyOf SinkFault) → Told result → OnErr result (IsTold m spare a old (IsRightFrom formula spare a) new)
   told_on_err (Ok outcome) t = tt
-  told_on_err (Err fault) t = (t.steps, t.told, t.left)
+  told_on_err (Err fault) t = (t.steps, t.told, t.own, t.left)
 
-  pub torn_on_failed : (result : Result TidyOf SinkFault) → Told result → OnFailed result (IsTold m old (IsTornAfter m formula spare a new) new)
+  pub torn_on_failed : (result : Result TidyOf SinkFault) → Told result → OnFailed result (IsTold m spare a old (IsTornAfter m formula spare a new) new)
   torn_on_failed (Ok outcome) t = tt
   torn_on_failed (Err Memory) t = tt
-  torn_on_failed (Err Failed) t = (t.steps, t.told, t.torn)
+  torn_on_failed (Err Failed) t = (t.steps, t.told, t.own, t.torn)

@@ -2,6 +2,7 @@
 use Rattle.std.proofs.Common.{◌≡◌, ◌≢◌, inl, inr, refl, sym, ap, ◌∙◌, subst, ℕ, zero, suc, ◌<◌, ◌≤◌, Bool, true, List, [], ◌∷◌, length, get_or, Option, Some, arith}
 use Rattle.std.specs.List.{Contains}
 use Rattle.std.proofs.lemmas.Bool.{and_parts}
+use Rattle.cx_base.specs.Assumptions.{is_ending}
 use Rattle.cx_base.specs.Literals.{Literal}
 use Rattle.cx_base.specs.Problem.{Problem}
 use Rattle.cx_base.specs.declared.steps.LogStep.{LogStep}
@@ -17,11 +18,14 @@ use Rattle.clause_tidy.specs.declared.outcome.TidyOf.{TidyOf}
 use Rattle.clause_tidy.specs.declared.outcome.TidyOf.TheVariants.{Done, Ended}
 use Rattle.clause_tidy.specs.Agreeing.{IsNamedBy, Agrees}
 use Rattle.clause_tidy.specs.Derived.{IsDerived}
-use Rattle.clause_tidy.specs.Done.{IsCoveredBy, AreNamed, IsTidied, TidiesTo, TakesUnits}
-use Rattle.clause_tidy.specs.Taking.{IsUnitAt, Takes, IsWide}
-use Rattle.clause_tidy.specs.Tidying.{IsClauseOf, IsCovered, Tidies}
+use Rattle.clause_tidy.specs.Done.{IsCoveredBy, AreNamed, IsTidied, LeavesIdsOr, TidiesTo, TakesUnits}
+use Rattle.clause_tidy.specs.Shortened.{AreDifferent}
+use Rattle.clause_tidy.specs.Taking.{Lists, IsUnitAt, Takes, IsWide}
+use Rattle.clause_tidy.specs.Tidying.{IsClauseOf, IsCovered, LeavesIds, SparesLearned, Tidies, WasOrCame}
+use Rattle.tidy_rules.specs.Runs.{NoneDeletes}
 use Rattle.tidy_rules.proofs.OneLaws.{not_two}
 use Rattle.clause_tidy.proofs.LeftLaws.{was_there}
+use Rattle.clause_tidy.proofs.WeightLaws.{left_weighs}
 
 any_default : {X : Type 0} (xs : List X) (i : ℕ) (d e : X) → i < length xs → get_or xs i d ≡ get_or xs i e
 any_default [] i d e h = absurd (omega (arith, h))
@@ -110,6 +114,27 @@ module _ (formula : Problem) (spare : ℕ) (a m b : ArenaState) (units : List Li
       free = h.free;
     }
 
+  spared : SparesLearned m steps → SparesLearned b steps
+  spared f q l e = let same = k.left.same q l in subst (λ n. NoneDeletes n steps) (sym (ap id_in same)) (f q (was_there m b k.left q l) (sym (ap learned_in same) ∙ e))
+
+  ids_left : (table : Table) → LeavesIds a m table → LeavesIdsOr a b units ids table
+  ids_left table f r l = elim (f r l) [
+    | inl none ↦ inl none
+    | inr (q, live, is) ↦ elim (k.taken q live) [
+      | inl on ↦ inr (inl (q, on, ap id_in (k.left.same q on) ∙ is))
+      | inr (u, n, lists, unit) ↦ inr (inr (u, subst (λ x. Lists units ids u x) (sym unit.2 ∙ is) lists))
+    ]
+  ]
+
+  old_or_new : (q : ℕ) → IsLive b q → WasOrCame formula a b q
+  old_or_new q l =
+      let same = ap literals_in (k.left.same q l) in
+      elim (t.was q (was_there m b k.left q l)) [
+        | inl (old, also) ↦ inl (old, same ∙ also)
+        | inr (past, different, going) ↦
+            inr (past, subst AreDifferent (sym same) different, ap (is_ending formula.constraints) same ∙ going)
+      ]
+
   pub is_done : (first : ℕ) → first ≡ length a.clauses → ((q : ℕ) → first ≤ q → IsWide b q) → IsTidied formula spare a b units ids steps
   is_done first e wide = record {
     tidied = all_tidied;
@@ -118,7 +143,11 @@ module _ (formula : Problem) (spare : ℕ) (a m b : ArenaState) (units : List Li
     derived = λ p hp. let r = ref_of p hp in subst (IsDerived (IsClauseOf a)) (sym r.2) (t.derived r.0 r.1);
     learned = λ q l tr. k.left.same q l ∙ t.learned q (was_there m b k.left q l) (sym (ap learned_in (k.left.same q l)) ∙ tr);
     wide = λ q low. wide q (omega (arith, low, e));
-    runs = λ tables agree. let x = t.runs tables agree in (x.0, x.1, agrees_still x.0.clauses x.2, named x.0.clauses x.2, x.3);
+    was = old_or_new;
+    runs = (
+      (let one = t.few in let two = left_weighs m b k.left in omega (arith, one, two)),
+      (λ tables agree. let x = t.runs tables agree in (x.0, x.1, agrees_still x.0.clauses x.2, named x.0.clauses x.2, x.3, spared x.4, ids_left x.0.clauses x.5)),
+    );
   }
 
 pub outcome_is : (formula : Problem) (spare : ℕ) (a m b : ArenaState) (steps : List LogStep) (first : ℕ) (o : TidyOf) → Tidies formula spare a m steps → Tidied m [] → first ≡ length a.clauses → TakesUnits m b first o → TidiesTo formula spare a b o steps

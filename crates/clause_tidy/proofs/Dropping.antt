@@ -31,12 +31,12 @@ module _ (a : ArenaState) (r : ℕ) (live : IsLive a r) (why : MayGo a r) (step 
   pub drop_failed : {L T : Type 0} (m : sink.Ghosts L LogEvent) (fault : SinkFault) (old new : L) (Done : T → List LogStep → Type 0) (formula : Problem) (spare : ℕ)
       → TellsIn {T = T} m (Step step ∷ []) old (Err fault) new → TidiesOn m formula spare a old (Err fault) Done new
   drop_failed {L} {T} m fault old new Done formula spare h =
-      tells_tidily m formula spare a steps Done old new (right formula spare) (Err fault) (subst (λ s. TellsIn {T = T} m (Step s ∷ []) old (Err fault) new) is h) (λ t e. no_answer fault t e)
+      tells_tidily m formula spare a steps Done old new (right formula spare) (inr (r, live, refl), tt) (Err fault) (subst (λ s. TellsIn {T = T} m (Step s ∷ []) old (Err fault) new) is h) (λ t e. no_answer fault t e)
 
   pub drop_told : {L T : Type 0} (m : sink.Ghosts L LogEvent) (t : T) (b : ArenaState) (old new : L) (formula : Problem) (spare : ℕ) → b.clauses ≡ set a.clauses r None
       → TellsIn {T = T} m (Step step ∷ []) old (Ok t) new → TidiesOn {T = T} m formula spare a old (Ok t) (λ _. Tidies formula spare a b) new
   drop_told {L} {T} m t b old new formula spare e h =
-      tells_tidily m formula spare a steps (λ _. Tidies formula spare a b) old new (right formula spare) (Ok t) (subst (λ s. TellsIn {T = T} m (Step s ∷ []) old (Ok t) new) is h)
+      tells_tidily m formula spare a steps (λ _. Tidies formula spare a b) old new (right formula spare) (inr (r, live, refl), tt) (Ok t) (subst (λ s. TellsIn {T = T} m (Step s ∷ []) old (Ok t) new) is h)
       (λ _ _. removal_tidies formula spare a b r live e why [])
 
 -- ---- one inside it is kept

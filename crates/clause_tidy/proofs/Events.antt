@@ -4,6 +4,7 @@ use Rattle.std.proofs.lemmas.List.{length-map, take-map, get_or-map}
 use Rattle.cx_base.specs.declared.steps.LogStep.{LogStep}
 use Rattle.cx_base.specs.declared.steps.LogEvent.{LogEvent}
 use Rattle.cx_base.specs.declared.steps.LogEvent.TheVariants.{Step, Conflict}
+use Rattle.cx_texts.specs.Printed.{HasText}
 use Rattle.step_text.specs.declared.sink.SinkFault.{SinkFault}
 use Rattle.step_text.specs.declared.sink.SinkFault.TheVariants.{Memory, Failed}
 use Rattle.step_text.specs.Sinks.{OnFailed}
@@ -26,6 +27,11 @@ one_is_not_told torn event old new Memory same t = (0, omega arith, same ∙ sym
     other : Memory ≡ Failed → ⊥
     other w = cc
 one_is_not_told torn event old new Failed same t = (0, omega arith, same ∙ sym (no_more old), λ w. t)
+
+-- a torn event has the text that it was to get
+pub torn_with_text : (torn : LogEvent → Type 0) (event : LogEvent) (fault : SinkFault) → HasText event → OnFailed {T = Unit {0}} (Err fault) (torn event) → OnFailed {T = Unit {0}} (Err fault) (torn event × HasText event)
+torn_with_text torn event Memory text t = t
+torn_with_text torn event Failed text t = (t, text)
 
 -- steps one after another: the step at a place is not told
 pub stops_there : (torn : LogEvent → Type 0) (steps : List LogStep) (i : ℕ) (s : LogStep) (first old new : Option (List LogEvent)) (fault : SinkFault) → i < length steps → s ≡ get_or steps i s

@@ -1,7 +1,7 @@
 -- A clause that is kept as one that was not learned.
-use Rattle.std.proofs.Common.{◌≡◌, ◌≢◌, refl, sym, ap, ◌∙◌, ℕ, true, false, inr, ⊎_elim, List, [], set, get_or, Option, Some, None, is_some, true≢false}
+use Rattle.std.proofs.Common.{◌≡◌, ◌≢◌, refl, sym, ap, ◌∙◌, ℕ, true, false, inl, inr, ⊎_elim, List, [], length, set, get_or, Option, Some, None, is_some, true≢false, arith}
 use Rattle.std.proofs.lemmas.Bool.{cases_eq}
-use Rattle.std.proofs.lemmas.List.{get_or-set_same, get_or-set_other}
+use Rattle.std.proofs.lemmas.List.{get_or-set_same, get_or-set_other, length-set}
 use Rattle.cx_base.specs.Literals.{Literal}
 use Rattle.cx_base.specs.Problem.{Problem}
 use Rattle.cx_semantics.specs.Chain.{is_inside, same_literals}
@@ -13,6 +13,7 @@ use Rattle.clause_tidy.specs.Derived.{given}
 use Rattle.clause_tidy.specs.Agreeing.{Agrees}
 use Rattle.clause_tidy.specs.Tidying.{Tidies}
 use Rattle.clause_tidy.proofs.Removing.{NoClause}
+use Rattle.clause_tidy.proofs.WeightLaws.{same_kept}
 
 kept_literals : (o : Option Stored) → literals_in (kept o) ≡ literals_in o
 kept_literals None = refl
@@ -80,5 +81,8 @@ module _ (a b : ArenaState) (k : ℕ) (live : IsLive a k) (is : b.clauses ≡ se
     derived = λ q l. given (literals_at b q) (q, was_live q l, sym (same_literals_at q));
     parts = λ q l. record { r = q; live = was_live q l; inside = ap (λ (x : List Literal). is_inside x (literals_at a q)) (same_literals_at q) ∙ inside_itself (literals_at a q); same = same_id_at q };
     learned = λ q l e. learned_stays q e;
-    runs = λ tables h. (tables, refl, agrees_kept spare tables.clauses h, λ n free. free);
+    grown = let long = ap (λ (cs : List (Option Stored)). length cs) is ∙ length-set a.clauses k (kept (clause_at a k)) in omega (arith, long);
+    was = λ q l. inl (was_live q l, same_literals_at q);
+    few = let same = same_kept a b k live is in omega (arith, same);
+    runs = λ tables h. (tables, refl, agrees_kept spare tables.clauses h, (λ n free. free), (λ q l e. tt), λ r l. inr (r, is_live r l, same_id_at r));
   }

@@ -1,8 +1,8 @@
 -- A clause that goes: one with a literal and its negation, or one that another lies inside.
-use Rattle.std.proofs.Common.{◌≡◌, ◌≢◌, refl, sym, ap, ◌∙◌, subst, ℕ, true, false, inl, inr, ⊎_elim, List, [], ◌∷◌, set, get_or, Option, Some, None, IsSome, is_some, unwrap_or}
+use Rattle.std.proofs.Common.{◌≡◌, ◌≢◌, refl, sym, ap, ◌∙◌, subst, ℕ, ℤ, true, false, inl, inr, ⊎_elim, List, [], ◌∷◌, length, set, get_or, Option, Some, None, IsSome, is_some, unwrap_or, arith}
 use Rattle.std.specs.FinMap as map_
 use Rattle.std.proofs.lemmas.Bool.{cases_eq, and_parts}
-use Rattle.std.proofs.lemmas.List.{get_or-set_same, get_or-set_other}
+use Rattle.std.proofs.lemmas.List.{get_or-set_same, get_or-set_other, length-set}
 use Rattle.cx_base.specs.Literals.{Literal}
 use Rattle.cx_base.specs.Problem.{Problem}
 use Rattle.cx_base.specs.declared.steps.LogStep.TheVariants.{Delete}
@@ -18,10 +18,11 @@ use Rattle.clause_tidy.specs.Derived.{given}
 use Rattle.clause_tidy.specs.Answers.{MayGo}
 use Rattle.clause_tidy.specs.Agreeing.{Agrees}
 use Rattle.tidy_rules.specs.Runs.{IsTidyStep}
-use Rattle.clause_tidy.specs.Tidying.{IsCovered, Tidies}
+use Rattle.clause_tidy.specs.Tidying.{IsCovered, LeavesIds, SparesLearned, Tidies}
 use Rattle.tidy_rules.proofs.InsideLaws.{inside_through, tautology_inside}
 use Rattle.clause_tidy.proofs.RunLaws.{one_step}
 use Rattle.clause_tidy.proofs.TableLooks.{drop_other, drop_same, drop_keeps_free, no_clause}
+use Rattle.clause_tidy.proofs.WeightLaws.{less_without}
 
 abbrev pub NoClause : Option Stored
 NoClause = None
@@ -47,6 +48,9 @@ module _ (a b : ArenaState) (r : ℕ) (live : IsLive a r) (is : b.clauses ≡ se
   lives_on q ne l = subst (λ (o : Option Stored). IsSome o) (sym (stays q ne)) l
 
 -- ---- the log
+pub same_deleted : (n m : ℕ) (zs ys : List ℤ) → Delete n zs ≡ Delete m ys → n ≡ m
+same_deleted n m zs ys e = cc
+
 pub of_table : (table : Table) (n : ℕ) (clause : List Literal) → get table n ≡ Some clause → clause_of table n ≡ clause
 of_table table n clause e = ap (λ (o : Option (List Literal)). unwrap_or o []) e
 
@@ -75,8 +79,14 @@ module _ (spare : ℕ) (table : Table) (a b : ArenaState) (r : ℕ) (live : IsLi
         (λ (ne : spare ≢ id_at a r). drop_other table (id_at a r) spare ne ∙ h.free) (cases_eq spare (id_at a r));
   }
 
+  -- the clauses that are left are others
+  others_spared : (zs : List ℤ) → SparesLearned b (Delete (id_at a r) zs ∷ [])
+  others_spared zs q l e =
+      let ne = other_lives a b r live is q l in
+      ((λ ys same. ne (h.apart q r (lived a b r live is q l) live (sym (ap id_in (stays a b r live is q ne)) ∙ sym (same_deleted (id_at a r) (id_at b q) zs ys same)))), tt)
+
 module _ (formula : Problem) (spare : ℕ) (a b : ArenaState) (r : ℕ) (live : IsLive a r) (is : b.clauses ≡ set a.clauses r None) (why : MayGo a r) where
-  tidy_step : (table : Table) (zs : List Rattle.std.specs.Prelude.ℤ) → Agrees spare table a → IsTidyStep table (Delete (id_at a r) zs)
+  tidy_step : (table : Table) (zs : List ℤ) → Agrees spare table a → IsTidyStep table (Delete (id_at a r) zs)
   tidy_step table zs h =
       let s = h.stored r live in
       let mine = of_table table (id_at a r) s.clause s.live in
@@ -107,7 +117,11 @@ module _ (formula : Problem) (spare : ℕ) (a b : ArenaState) (r : ℕ) (live : 
       let stay = stays a b r live is p ne in
       inr (p, lives_on a b r live is p ne l, ap (λ (o : Option Stored). is_inside (literals_in o) (literals_at a p)) stay ∙ inside_itself (literals_at a p), λ e. ap learned_in stay ∙ e)) (cases_eq p r)
 
-  pub removal_tidies : (zs : List Rattle.std.specs.Prelude.ℤ) → Tidies formula spare a b (Delete (id_at a r) zs ∷ [])
+  ids_left : (table : Table) → LeavesIds a b (map_.remove table (id_at a r))
+  ids_left table p l = ⊎_elim (λ (same : p ≡ r). inl (ap (get (map_.remove table (id_at a r))) (ap (id_at a) same) ∙ drop_same table (id_at a r)))
+      (λ (ne : p ≢ r). inr (p, lives_on a b r live is p ne l, ap id_in (stays a b r live is p ne))) (cases_eq p r)
+
+  pub removal_tidies : (zs : List ℤ) → Tidies formula spare a b (Delete (id_at a r) zs ∷ [])
   removal_tidies zs = record {
     covers = cover;
     derived = λ q l. given (literals_at b q) (q, lived a b r live is q l, sym (ap literals_in (stays a b r live is q (other_lives a b r live is q l))));
@@ -115,10 +129,15 @@ module _ (formula : Problem) (spare : ℕ) (a b : ArenaState) (r : ℕ) (live : 
         let same = stays a b r live is q (other_lives a b r live is q l) in
         record { r = q; live = lived a b r live is q l; inside = ap (λ (o : Option Stored). is_inside (literals_in o) (literals_at a q)) same ∙ inside_itself (literals_at a q); same = ap id_in same };
     learned = λ q l e. stays a b r live is q (other_lives a b r live is q l);
+    grown = let long = ap (λ (cs : List (Option Stored)). length cs) is ∙ length-set a.clauses r None in omega (arith, long);
+    few = let less = less_without a b r live is in let one : length (Delete (id_at a r) zs ∷ []) ≡ 1 = refl in omega (arith, less, one);
+    was = λ q l. inl (lived a b r live is q l, ap literals_in (stays a b r live is q (other_lives a b r live is q l)));
     runs = λ tables h. (
       after_log_step tables (Delete (id_at a r) zs),
       one_step formula tables (Delete (id_at a r) zs) tt refl (tidy_step tables.clauses zs h),
       agrees_without spare tables.clauses a b r live is h,
       drop_keeps_free tables.clauses (id_at a r),
+      others_spared spare tables.clauses a b r live is h zs,
+      ids_left tables.clauses,
     );
   }

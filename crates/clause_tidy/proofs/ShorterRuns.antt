@@ -1,5 +1,5 @@
 -- A clause that loses a literal, by another that strengthens it.
-use Rattle.std.proofs.Common.{◌≡◌, ◌≢◌, refl, sym, ap, ◌∙◌, subst, ℕ, ℤ, pos, nat_abs, true, false, not, inr, ⊎_elim, List, [], ◌∷◌, ◌++◌, length, set, Option, Some, None, is_some}
+use Rattle.std.proofs.Common.{◌≡◌, ◌≢◌, refl, sym, ap, ◌∙◌, subst, ℕ, ℤ, pos, nat_abs, true, false, true≢false, not, inr, ⊎_elim, List, [], ◌∷◌, ◌++◌, length, set, Option, Some, None, is_some}
 use Rattle.std.specs.List.{list_any, cons_option}
 use Rattle.std.specs.Prelude.{nat_lt}
 use Rattle.std.specs.FinMap as map_
@@ -16,24 +16,28 @@ use Rattle.cx_semantics.specs.LogRules.{log_calculus}
 use Rattle.cx_semantics.specs.Tables.{Table, Tables, get, named}
 use Rattle.cx_semantics.proofs.Closure.{inside_itself}
 use Rattle.cx_semantics.proofs.SameSets.{HaveSame-by_test, chain_stays_right, inside_by}
-use Rattle.clause_arena.specs.Clauses.{ArenaState, Stored, clause_at, IsLive, literals_at, id_at, literals_in, id_in}
+use Rattle.clause_arena.specs.Clauses.{ArenaState, Stored, clause_at, IsLive, literals_at, id_at, learned_at, literals_in, id_in, learned_in}
 use Rattle.clause_arena.proofs.PackingLaws.{live_within}
 use Rattle.tidy_rules.specs.Relations.{strengthens_at}
 use Rattle.tidy_rules.specs.Tidied.{HasTwo}
 use Rattle.clause_tidy.specs.Agreeing.{IsNamedBy, Agrees}
 use Rattle.tidy_rules.specs.Hints.{AreHintsFor}
-use Rattle.tidy_rules.specs.Runs.{IsTidyStep, KeepsFree, RunsTidily, EndsTidily}
+use Rattle.tidy_rules.specs.Runs.{IsTidyStep, KeepsFree, NoneDeletes, RunsTidily, EndsTidily}
 use Rattle.clause_tidy.specs.Shortened.{IsWithout}
 use Rattle.clause_tidy.specs.Steps.{shortening, strengthening}
 use Rattle.tidy_rules.proofs.InsideLaws.{inside_through, no_tautology_inside}
 use Rattle.clause_tidy.proofs.ChainsOfTwo.{chain_of_part, chain_of_two}
 use Rattle.clause_tidy.proofs.Arenas
-use Rattle.clause_tidy.proofs.Removing.{of_table}
+use Rattle.clause_tidy.specs.Tidying.{LeavesIds, SparesLearned}
+use Rattle.clause_tidy.proofs.Removing.{of_table, same_deleted}
 use Rattle.clause_tidy.proofs.TableLooks.{put_same, put_other, drop_other, drop_same, no_clause}
 
 -- the shorter clause lies inside the longer one
 pub without_inside : (clause shorter : List Literal) (l : Literal) → IsWithout clause l shorter → is_inside shorter clause ≡ true
 without_inside clause shorter l is = inside_by shorter clause (λ m h. (and_parts (has_literal clause m) (not (same_literal m l)) (sym (is.has m) ∙ h)).0)
+
+no_deletion : (n m : ℕ) (zs hints ys : List ℤ) → ClauseWithHints n zs hints ≡ Delete m ys → ⊥
+no_deletion n m zs hints ys e = cc
 
 -- ---- the log
 -- the literals of the step, and of the clause that it makes shorter
@@ -221,3 +225,26 @@ module _ (formula : Problem) (spare : ℕ) (table : Table) (parities : Table) (a
       held = hold_on;
       free = drop_same t3 spare;
     }
+
+    -- the learned clauses that are left are others
+    spare_old : (q : ℕ) → Arenas.Which a b r live new grown q → IsLive b q → learned_at b q ≡ true → NoneDeletes (id_at b q) (shortening spare (id_at a k) n zs)
+    spare_old q (Arenas.newest e) l t = absurd (true≢false (sym t ∙ ap (learned_at b) e ∙ ap learned_in (Arenas.last a b r live new grown)))
+    spare_old q (Arenas.older low ne) l t =
+        let same = Arenas.stays a b r live new grown q low ne in
+        let old = Arenas.was_live a b r live new grown q low ne l in (
+          (λ ys e. no_deletion spare (id_at b q) zs (pos (id_at a k) ∷ pos n ∷ []) ys e),
+          (
+            (λ ys e. ne (h.apart q r old live (sym (ap id_in same) ∙ sym (same_deleted n (id_at b q) [] ys e)))),
+            (
+              (λ ys e. no_deletion n (id_at b q) zs (pos spare ∷ []) ys e),
+              ((λ ys e. not_spare q old (sym (ap id_in same) ∙ sym (same_deleted spare (id_at b q) [] ys e))), tt),
+            ),
+          ),
+        )
+
+    pub spares_others : SparesLearned b (shortening spare (id_at a k) n zs)
+    spares_others q l t = spare_old q (Arenas.which a b r live new grown q l) l t
+
+    pub leaves_ids : LeavesIds a b t4
+    leaves_ids p l = inr (⊎_elim (λ (same : p ≡ r). (length a.clauses, Arenas.new_lives a b r live new grown, ap id_in (Arenas.last a b r live new grown) ∙ ap (id_at a) (sym same)))
+        (λ (ne : p ≢ r). (p, Arenas.is_live_on a b r live new grown p ne l, ap id_in (Arenas.stays a b r live new grown p (live_within a p l) ne))) (cases_eq p r))

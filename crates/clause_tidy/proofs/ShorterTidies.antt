@@ -1,8 +1,9 @@
 -- A shortened clause is tidying.
-use Rattle.std.proofs.Common.{◌≡◌, ◌≢◌, sym, ap, ◌∙◌, subst, ℕ, ℤ, nat_abs, true, false, ◌⊎◌, inl, inr, ⊎_elim, List, [], ◌∷◌, ◌++◌, length, set, get_or, Option, Some, None, arith, true≢false}
+use Rattle.std.proofs.Common.{◌≡◌, ◌≢◌, refl, sym, ap, ◌∙◌, subst, ℕ, ◌<◌, ◌≤◌, ℤ, nat_abs, true, false, ◌⊎◌, inl, inr, ⊎_elim, List, [], ◌∷◌, ◌++◌, length, set, get_or, Option, Some, None, arith, true≢false}
 use Rattle.std.specs.List.{list_any}
 use Rattle.std.specs.Prelude.{Contains, nat_lt}
 use Rattle.std.proofs.lemmas.Bool.{cases_eq}
+use Rattle.std.proofs.lemmas.List.{length-append, length-set}
 use Rattle.std.proofs.lemmas.List.Elements.{Contains-append_cases}
 use Rattle.cx_base.specs.Assumptions.{is_ending}
 use Rattle.cx_base.specs.Literals.{Literal, negate}
@@ -15,12 +16,14 @@ use Rattle.clause_arena.specs.Clauses.{ArenaState, Stored, clause_at, IsLive, li
 use Rattle.clause_arena.proofs.PackingLaws.{live_within}
 use Rattle.tidy_rules.specs.Relations.{strengthens_at}
 use Rattle.clause_tidy.specs.Derived.{IsDerived, given, chained}
-use Rattle.clause_tidy.specs.Shortened.{IsWithout, Shortens}
+use Rattle.clause_tidy.specs.Shortened.{AreDifferent, IsWithout, Shortens}
 use Rattle.clause_tidy.specs.Steps.{shortening}
-use Rattle.clause_tidy.specs.Tidying.{IsClauseOf, IsCovered, IsPartOf, Tidies}
+use Rattle.clause_tidy.specs.Tidying.{IsClauseOf, IsCovered, IsPartOf, Tidies, WasOrCame}
 use Rattle.clause_tidy.proofs.ChainsOfTwo.{chain_of_two}
 use Rattle.clause_tidy.proofs.Arenas
-use Rattle.clause_tidy.proofs.ShorterRuns.{without_inside, runs_shortening, free_again, agrees_shortened}
+use Rattle.clause_tidy.proofs.Removing.{NoClause}
+use Rattle.clause_tidy.proofs.WeightLaws.{less_shorter}
+use Rattle.clause_tidy.proofs.ShorterRuns.{without_inside, runs_shortening, free_again, agrees_shortened, spares_others, leaves_ids}
 
 one_of_one : (x h : List Literal) → Contains (x ∷ []) h → h ≡ x
 one_of_one x h (k, less, e) = let first : k ≡ 0 = omega (arith, less) in sym e ∙ ap (λ i. get_or (x ∷ []) i h) first
@@ -41,7 +44,7 @@ module _ (formula : Problem) (spare : ℕ) (a b : ArenaState) (r k : ℕ) (live 
     (has_m : has_literal (literals_at a k) m ≡ true) (at : strengthens_at (literals_at a k) (literals_at a r) m ≡ true)
     (by_ok : is_tautology (literals_at a k) ≡ false) (ok : is_tautology (literals_at a r) ≡ false) (is : IsWithout (literals_at a r) (negate m) short)
     (spells : literals zs ≡ short) (within : list_any (λ z. nat_lt formula.variables (nat_abs z)) zs ≡ false) (no_end : is_ending formula.constraints (literals zs) ≡ false)
-    (lbd : ℕ) (grown : b.clauses ≡ set a.clauses r None ++ Some (record { literals = short; id = id_at a r; lbd = lbd; learned = false }) ∷ []) where
+    (lbd : ℕ) (grown : b.clauses ≡ set a.clauses r None ++ Some (record { literals = short; id = id_at a r; lbd = lbd; learned = false }) ∷ []) (shorter : length short < length (literals_at a r)) where
   abbrev new : Stored
   new = record { literals = short; id = id_at a r; lbd = lbd; learned = false }
 
@@ -88,16 +91,34 @@ module _ (formula : Problem) (spare : ℕ) (a b : ArenaState) (r k : ℕ) (live 
   learn q (Arenas.newest e) l t = absurd (true≢false (sym t ∙ ap (learned_at b) e ∙ ap learned_in at_end))
   learn q (Arenas.older low ne) l t = Arenas.stays a b r live new grown q low ne
 
+  longer : length a.clauses ≤ length b.clauses
+  longer =
+      let one = length-append (set a.clauses r NoClause) (Some new ∷ []) in
+      let two = length-set a.clauses r NoClause in
+      let three = ap (λ (cs : List (Option Stored)). length cs) grown in
+      omega (arith, one, two, three)
+
+  old_or_new : (q : ℕ) → Arenas.Which a b r live new grown q → IsLive b q → WasOrCame formula a b q
+  old_or_new q (Arenas.newest e) l =
+      let lits : literals_at b q ≡ short = ap (literals_at b) e ∙ ap literals_in at_end in
+      inr (omega (arith, e), subst AreDifferent (sym lits) is.once, ap (is_ending formula.constraints) (lits ∙ sym spells) ∙ no_end)
+  old_or_new q (Arenas.older low ne) l = inl (Arenas.was_live a b r live new grown q low ne l, ap literals_in (Arenas.stays a b r live new grown q low ne))
+
   pub shortening_tidies : Tidies formula spare a b (shortening spare (id_at a k) (id_at a r) zs)
   shortening_tidies = record {
     covers = cover;
     derived = λ q l. derive q (Arenas.which a b r live new grown q l) l;
     parts = λ q l. part q (Arenas.which a b r live new grown q l) l;
     learned = λ q l t. learn q (Arenas.which a b r live new grown q l) l t;
+    grown = longer;
+    few = let less = less_shorter a b r new live shorter grown in let four : length (shortening spare (id_at a k) (id_at a r) zs) ≡ 4 = refl in omega (arith, less, four);
+    was = λ q l. old_or_new q (Arenas.which a b r live new grown q l) l;
     runs = λ tables h. (
       _,
       runs_shortening formula spare tables.clauses tables.parities a r k live live_k short m zs h has_m at by_ok ok is spells within no_end,
       agrees_shortened formula spare tables.clauses tables.parities a r k live live_k short m zs h has_m at by_ok ok is spells within b lbd grown,
       free_again formula spare tables.clauses tables.parities a r k live live_k short m zs h has_m at by_ok ok is spells within,
+      spares_others formula spare tables.clauses tables.parities a r k live live_k short m zs h has_m at by_ok ok is spells within b lbd grown,
+      leaves_ids formula spare tables.clauses tables.parities a r k live live_k short m zs h has_m at by_ok ok is spells within b lbd grown,
     );
   }

@@ -1,5 +1,5 @@
 -- A shortened clause, told to a sink.
-use Rattle.std.proofs.Common.{◌≡◌, refl, sym, ap, ◌∙◌, subst, ℕ, zero, suc, ◌<◌, true, false, List, [], ◌∷◌, ◌++◌, length, set, get_or, Option, Some, None, IsSome, Result, Ok, Err, arith}
+use Rattle.std.proofs.Common.{◌≡◌, refl, sym, ap, ◌∙◌, subst, ℕ, zero, suc, ◌<◌, inl, inr, true, false, List, [], ◌∷◌, ◌++◌, length, set, get_or, Option, Some, None, IsSome, Result, Ok, Err, arith}
 use Rattle.std.proofs.lemmas.List.{get_or_append_left}
 use Rattle.cx_base.specs.Assumptions.{is_ending}
 use Rattle.cx_base.specs.Literals.{Literal, negate}
@@ -42,7 +42,7 @@ grown_then_removed a b d r new live e f = f ∙ ap (λ (cs : List (Option Stored
 
 -- ---- nothing was told
 pub nothing_on : {L T : Type 0} (m : sink.Ghosts L LogEvent) (a : ArenaState) (old : L) (Done : T → List LogStep → Type 0) → m.keeps old old → (formula : Problem) (spare : ℕ) → TidiesOn {T = T} m formula spare a old (Err Memory) Done old
-nothing_on m a old Done keeps formula spare = record { steps = []; told = sym (no_more (m.items old)); done = tt; left = λ tables h. (tables, refl); torn = tt; faults = refl; failed = refl; frame = keeps }
+nothing_on m a old Done keeps formula spare = record { steps = []; told = sym (no_more (m.items old)); own = tt; done = tt; left = λ tables h. (tables, refl); torn = tt; faults = refl; failed = refl; frame = keeps }
 
 module _ (formula : Problem) (spare : ℕ) (a : ArenaState) (k r : ℕ) (live : IsLive a r) (live_k : IsLive a k) (rest : List Literal) (s : Shortens a k r rest) (proper : AreProper formula a) where
   part_within : AreWithin formula.variables rest
@@ -65,13 +65,13 @@ module _ (formula : Problem) (spare : ℕ) (a : ArenaState) (k r : ℕ) (live : 
   )
 
   -- the four steps
-  pub shorter_told : {L T : Type 0} (m : sink.Ghosts L LogEvent) (old new : L) (result : Result T SinkFault) (b : ArenaState) (lbd : ℕ) → is_ending formula.constraints rest ≡ false
+  pub shorter_told : {L T : Type 0} (m : sink.Ghosts L LogEvent) (old new : L) (result : Result T SinkFault) (b : ArenaState) (lbd : ℕ) → is_ending formula.constraints rest ≡ false → length rest < length (literals_at a r)
       → ((t : T) → result ≡ Ok t → b.clauses ≡ set a.clauses r None ++ Some (record { literals = rest; id = id_at a r; lbd = lbd; learned = false }) ∷ [])
       → TellsIn m (as_events (shortening spare (id_at a k) (id_at a r) (integers_of rest))) old result new → TidiesOn m formula spare a old result (λ _. Tidies formula spare a b) new
-  shorter_told m old new result b lbd no_end grown tells =
+  shorter_told m old new result b lbd no_end shorter grown tells =
       let all = shortening spare (id_at a k) (id_at a r) (integers_of rest) in
-      tells_tidily m formula spare a all (λ _. Tidies formula spare a b) old new (run_is_right formula spare a all (right no_end)) result tells
-      (λ t e. shortening_tidies formula spare a b r k live live_k rest s.m (integers_of rest) s.has_m s.at s.by_ok s.ok s.is are low (same_end ∙ no_end) lbd (grown t e))
+      tells_tidily m formula spare a all (λ _. Tidies formula spare a b) old new (run_is_right formula spare a all (right no_end)) (inl refl, (inr (r, live, refl), (inr (r, live, refl), (inl refl, tt)))) result tells
+      (λ t e. shortening_tidies formula spare a b r k live live_k rest s.m (integers_of rest) s.has_m s.at s.by_ok s.ok s.is are low (same_end ∙ no_end) lbd (grown t e) shorter)
 
   -- an ending clause is left
   pub ending_told : {L T : Type 0} (m : sink.Ghosts L LogEvent) (old new : L) (result : Result T SinkFault) → is_ending formula.constraints rest ≡ true
@@ -80,7 +80,7 @@ module _ (formula : Problem) (spare : ℕ) (a : ArenaState) (k r : ℕ) (live : 
       let one = strengthening spare (id_at a k) (id_at a r) (integers_of rest) in
       tells_tidily m formula spare a (one ∷ []) (λ _. IsEnded formula spare a rest) old new
       (one_is_right formula spare a one (λ tables h. first_right formula spare tables.clauses tables.parities a r k live live_k rest s.m (integers_of rest) h s.has_m s.at s.by_ok s.ok s.is are low))
-      result tells
+      (inl refl, tt) result tells
       (λ t e. record {
         ending = all;
         derived = rest_derived a k r live_k live rest s;

@@ -33,7 +33,7 @@ abbrev pub IsStage : {L : Type 0} → sink.Ghosts L LogEvent → Problem → ℕ
 IsStage m formula spare a first b now = TidiesOn {T = Unit {0}} m formula spare a first (Ok tt) (λ _. Tidies formula spare a b) now
 
 pub first_stage : {L : Type 0} (m : sink.Ghosts L LogEvent) (formula : Problem) (spare : ℕ) (a : ArenaState) (first : L) → m.keeps first first → IsStage m formula spare a first a first
-first_stage m formula spare a first keeps = record { steps = []; told = sym (no_more (m.items first)); done = nothing_tidied formula spare a; left = tt; torn = tt; faults = refl; failed = refl; frame = keeps }
+first_stage m formula spare a first keeps = record { steps = []; told = sym (no_more (m.items first)); own = tt; done = nothing_tidied formula spare a; left = tt; torn = tt; faults = refl; failed = refl; frame = keeps }
 
 -- an ending after a stage
 end_on : (formula : Problem) (spare : ℕ) (a b : ArenaState) (lits : List Literal) (ss ts : List LogStep) → Tidies formula spare a b ss → EndsFrom formula spare b lits ts → EndsFrom formula spare a lits (ss ++ ts)
@@ -64,4 +64,4 @@ mend_on formula spare a b c ss ts None h k = tidied_on formula spare a b c ss ts
 pub stage_on : {L T : Type 0} (m : sink.Ghosts L LogEvent) (formula : Problem) (spare : ℕ) (a b : ArenaState) (first old new : L) (result : Result T SinkFault) (Done End : T → List LogStep → Type 0) → IsStage m formula spare a first b old
     → (m.keeps first old → m.keeps old new → m.keeps first new) → ((t : T) (ss ts : List LogStep) → Tidies formula spare a b ss → Done t ts → End t (ss ++ ts)) → TidiesOn m formula spare b old result Done new → TidiesOn m formula spare a first result End new
 stage_on m formula spare a b first old new result Done End s keeps end k =
-    goes_on formula spare a b s.steps s.done m Done End first old new result s.told s.faults s.failed (λ f. keeps s.frame f) (λ t ts d. end t s.steps ts s.done d) k
+    goes_on formula spare a b s.steps s.done m Done End first old new result s.own s.told s.faults s.failed (λ f. keeps s.frame f) (λ t ts d. end t s.steps ts s.done d) k

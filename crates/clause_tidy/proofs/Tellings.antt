@@ -1,7 +1,9 @@
 -- Steps of a tidying that a sink is told.
-use Rattle.std.proofs.Common.{◌≡◌, refl, sym, ap, ◌∙◌, subst, ℕ, zero, suc, ◌<◌, List, [], ◌∷◌, ◌++◌, length, take, get_or, Result, Ok, Err, arith}
+use Rattle.std.proofs.Common.{◌≡◌, refl, sym, ap, ◌∙◌, subst, ℕ, zero, suc, ◌<◌, inl, inr, List, [], ◌∷◌, ◌++◌, length, take, get_or, Result, Ok, Err, arith}
 use Rattle.std.specs.Prelude.{IfOk, OnErr}
+use Rattle.std.specs.List.{AllByRecursion}
 use Rattle.std.proofs.lemmas.List.{length-map, take-map, get_or-map}
+use Rattle.cx_base.proofs.Elements.{all_append}
 use Rattle.cx_base.specs.Problem.{Problem}
 use Rattle.cx_base.specs.declared.steps.LogEvent.{LogEvent}
 use Rattle.cx_base.specs.declared.steps.LogEvent.TheVariants.{Step, Conflict}
@@ -16,9 +18,9 @@ use Rattle.step_text.specs.declared.sink.SinkFault.{SinkFault}
 use Rattle.step_text.specs.declared.sink.SinkFault.TheVariants.{Memory, Failed}
 use Rattle.step_text.specs.Sinks.{SinkFaultsAs, HasFailedAs, OnFailed}
 use Rattle.clause_tidy.specs.Agreeing.{Agrees}
-use Rattle.clause_tidy.specs.Answers.{IsRightFrom, MayFollow, TidiesOn}
+use Rattle.clause_tidy.specs.Answers.{HasOwnId, IsRightFrom, IsTornAfter, MayFollow, TidiesOn}
 use Rattle.tidy_rules.specs.Runs.{RunsTidily}
-use Rattle.clause_tidy.specs.Telling.{TellsIn, as_events, with_events}
+use Rattle.clause_tidy.specs.Telling.{IsTornIn, TellsIn, as_events, with_events}
 use Rattle.clause_tidy.specs.Tidying.{Tidies}
 use Rattle.clause_tidy.proofs.Events.{more_and_more}
 use Rattle.clause_tidy.proofs.RunLaws.{run_on}
@@ -46,8 +48,19 @@ pub one_is_right : (formula : Problem) (spare : ℕ) (a : ArenaState) (step : Lo
 one_is_right formula spare a step h zero less tables agree = (tables, refl, h tables agree)
 one_is_right formula spare a step h (suc k) less tables agree = absurd (omega (arith, less))
 
+-- ---- prefixes of lists
+all_first : {X : Type 0} (P : X → Type 0) (xs : List X) (k : ℕ) → AllByRecursion P xs → AllByRecursion P (take k xs)
+all_first P xs zero h = tt
+all_first P [] (suc k) h = tt
+all_first P (x ∷ xs) (suc k) h = (h.0, all_first P xs k h.1)
+
+one_of_all : {X : Type 0} (P : X → Type 0) (xs : List X) (k : ℕ) (d : X) → k < length xs → AllByRecursion P xs → P (get_or xs k d)
+one_of_all P [] k d less h = absurd (omega (arith, less))
+one_of_all P (x ∷ xs) zero d less h = h.0
+one_of_all P (x ∷ xs) (suc k) d less h = one_of_all P xs k d (omega (arith, less)) h.1
+
 -- ---- tellings
-module _ {L T : Type 0} (m : sink.Ghosts L LogEvent) (formula : Problem) (spare : ℕ) (a : ArenaState) (steps : List LogStep) (Done : T → List LogStep → Type 0) (old new : L) (right : AreRight formula spare a steps) where
+module _ {L T : Type 0} (m : sink.Ghosts L LogEvent) (formula : Problem) (spare : ℕ) (a : ArenaState) (steps : List LogStep) (Done : T → List LogStep → Type 0) (old new : L) (right : AreRight formula spare a steps) (own : AllByRecursion (HasOwnId spare a) steps) where
   stopped : (fault : SinkFault) (k : ℕ) → k < length (as_events steps) → m.items new ≡ with_events (take k (as_events steps)) (m.items old) → m.items new ≡ with_events (as_events (take k steps)) (m.items old)
   stopped fault k less e = e ∙ ap (λ es. with_events es (m.items old)) (take-map Step k steps)
 
@@ -58,19 +71,21 @@ module _ {L T : Type 0} (m : sink.Ghosts L LogEvent) (formula : Problem) (spare 
   right_front k less tables agree = let w = right k less tables agree in (w.0, w.1)
 
   pub tells_tidily : (result : Result T SinkFault) → TellsIn m (as_events steps) old result new → ((t : T) → result ≡ Ok t → Done t steps) → TidiesOn m formula spare a old result Done new
-  tells_tidily (Ok t) h done = record { steps = steps; told = h.told; done = done t refl; left = tt; torn = tt; faults = h.faults; failed = h.failed; frame = h.frame }
+  tells_tidily (Ok t) h done = record { steps = steps; told = h.told; own = own; done = done t refl; left = tt; torn = tt; faults = h.faults; failed = h.failed; frame = h.frame }
   tells_tidily (Err Memory) h done =
       let k = h.told.0 in
-      record { steps = take k steps; told = stopped Memory k h.told.1 h.told.2; done = tt; left = right_front k (fewer k h.told.1); torn = tt; faults = h.faults; failed = h.failed; frame = h.frame }
+      record { steps = take k steps; told = stopped Memory k h.told.1 h.told.2; own = all_first (HasOwnId spare a) steps k own; done = tt; left = right_front k (fewer k h.told.1); torn = tt; faults = h.faults; failed = h.failed; frame = h.frame }
   tells_tidily (Err Failed) h done =
       let k = h.told.0 in
       let less = fewer k h.told.1 in
+      let torn = subst (IsTornIn m new) (get_or-map Step steps k no_step (Conflict 0) less) (h.told.3 refl) in
       record {
         steps = take k steps;
         told = stopped Failed k h.told.1 h.told.2;
+        own = all_first (HasOwnId spare a) steps k own;
         done = tt;
         left = right_front k less;
-        torn = (get_or steps k no_step, subst (m.torn new) (get_or-map Step steps k no_step (Conflict 0) less) (h.told.3 refl), right k less);
+        torn = (get_or steps k no_step, torn.0, torn.1, one_of_all (HasOwnId spare a) steps k no_step less own, right k less);
         faults = h.faults;
         failed = h.failed;
         frame = h.frame;
@@ -88,6 +103,14 @@ module _ (formula : Problem) (spare : ℕ) (a b : ArenaState) (ss : List LogStep
   pub follows_behind : (ts : List LogStep) (step : LogStep) → MayFollow formula spare b ts step → MayFollow formula spare a (ss ++ ts) step
   follows_behind ts step k tables agree = let x = h.runs tables agree in let y = k x.0 x.2 in (y.0, run_on formula tables x.0 y.0 ss ts x.1 y.1, y.2)
 
+  own_before : (step : LogStep) → HasOwnId spare b step → HasOwnId spare a step
+  own_before step (inl same) = inl same
+  own_before step (inr (q, live, is)) = let p = h.parts q live in inr (p.r, p.live, sym p.same ∙ is)
+
+  all_own_before : (ts : List LogStep) → AllByRecursion (HasOwnId spare b) ts → AllByRecursion (HasOwnId spare a) ts
+  all_own_before [] own = tt
+  all_own_before (t ∷ ts) own = (own_before t own.0, all_own_before ts own.1)
+
   on_err : {T : Type 0} (result : Result T SinkFault) (P Q : Type 0) → (P → Q) → OnErr result P → OnErr result Q
   on_err (Ok t) P Q f h = h
   on_err (Err e) P Q f h = f h
@@ -102,16 +125,16 @@ module _ (formula : Problem) (spare : ℕ) (a b : ArenaState) (ss : List LogStep
   if_ok (Err e) P Q f h = h
 
   -- what was told before goes on
-  pub goes_on : {L T : Type 0} (m : sink.Ghosts L LogEvent) (Done End : T → List LogStep → Type 0) (first old new : L) (result : Result T SinkFault)
+  pub goes_on : {L T : Type 0} (m : sink.Ghosts L LogEvent) (Done End : T → List LogStep → Type 0) (first old new : L) (result : Result T SinkFault) → AllByRecursion (HasOwnId spare a) ss
       → m.items old ≡ with_events (as_events ss) (m.items first) → m.faults old ≡ m.faults first → m.has_failed old ≡ m.has_failed first → (m.keeps old new → m.keeps first new)
       → ((t : T) (ts : List LogStep) → Done t ts → End t (ss ++ ts)) → TidiesOn m formula spare b old result Done new → TidiesOn m formula spare a first result End new
-  goes_on m Done End first old new result was faults failed frame end k = record {
+  goes_on m Done End first old new result own was faults failed frame end k = record {
     steps = ss ++ k.steps;
     told = k.told ∙ ap (with_events (as_events k.steps)) was ∙ more_and_more (as_events ss) (as_events k.steps) (m.items first) ∙ ap (λ es. with_events es (m.items first)) (sym (as_events-append ss k.steps));
+    own = all_append (HasOwnId spare a) ss k.steps own (all_own_before k.steps k.own);
     done = if_ok result (λ t. Done t k.steps) (λ t. End t (ss ++ k.steps)) (λ t d. end t k.steps d) k.done;
     left = on_err result (IsRightFrom formula spare b k.steps) (IsRightFrom formula spare a (ss ++ k.steps)) (right_behind k.steps) k.left;
-    torn = on_failed result ((step : LogStep) × m.torn new (Step step) × MayFollow formula spare b k.steps step) ((step : LogStep) × m.torn new (Step step) × MayFollow formula spare a (ss ++ k.steps) step)
-        (λ w. (w.0, w.1, follows_behind k.steps w.0 w.2)) k.torn;
+    torn = on_failed result (IsTornAfter m formula spare b new k.steps) (IsTornAfter m formula spare a new (ss ++ k.steps)) (λ w. (w.0, w.1, w.2, own_before w.0 w.3, follows_behind k.steps w.0 w.4)) k.torn;
     faults = subst (λ n. SinkFaultsAs result n (m.faults new)) faults k.faults;
     failed = subst (λ b. HasFailedAs result b (m.has_failed new)) failed k.failed;
     frame = frame k.frame;
@@ -120,14 +143,14 @@ module _ (formula : Problem) (spare : ℕ) (a b : ArenaState) (ss : List LogStep
 -- ---- the same with another answer
 pub other_answer : {L T U : Type 0} (m : sink.Ghosts L LogEvent) (formula : Problem) (spare : ℕ) (a : ArenaState) (Done : T → List LogStep → Type 0) (End : U → List LogStep → Type 0) (old new : L) (t : T) (u : U)
     → ((ss : List LogStep) → Done t ss → End u ss) → TidiesOn m formula spare a old (Ok t) Done new → TidiesOn m formula spare a old (Ok u) End new
-other_answer m formula spare a Done End old new t u f h = record { steps = h.steps; told = h.told; done = f h.steps h.done; left = tt; torn = tt; faults = h.faults; failed = h.failed; frame = h.frame }
+other_answer m formula spare a Done End old new t u f h = record { steps = h.steps; told = h.told; own = h.own; done = f h.steps h.done; left = tt; torn = tt; faults = h.faults; failed = h.failed; frame = h.frame }
 
 pub same_fault : {L T U : Type 0} (m : sink.Ghosts L LogEvent) (formula : Problem) (spare : ℕ) (a : ArenaState) (Done : T → List LogStep → Type 0) (End : U → List LogStep → Type 0) (old new : L) (fault : SinkFault)
     → TidiesOn m formula spare a old (Err fault) Done new → TidiesOn m formula spare a old (Err fault) End new
-same_fault m formula spare a Done End old new Memory h = record { steps = h.steps; told = h.told; done = tt; left = h.left; torn = tt; faults = h.faults; failed = h.failed; frame = h.frame }
-same_fault m formula spare a Done End old new Failed h = record { steps = h.steps; told = h.told; done = tt; left = h.left; torn = h.torn; faults = h.faults; failed = h.failed; frame = h.frame }
+same_fault m formula spare a Done End old new Memory h = record { steps = h.steps; told = h.told; own = h.own; done = tt; left = h.left; torn = tt; faults = h.faults; failed = h.failed; frame = h.frame }
+same_fault m formula spare a Done End old new Failed h = record { steps = h.steps; told = h.told; own = h.own; done = tt; left = h.left; torn = h.torn; faults = h.faults; failed = h.failed; frame = h.frame }
 
 -- out of memory after an answer
 pub out_of_memory : {L T U : Type 0} (m : sink.Ghosts L LogEvent) (formula : Problem) (spare : ℕ) (a : ArenaState) (Done : T → List LogStep → Type 0) (End : U → List LogStep → Type 0) (old new : L) (t : T)
     → ((ss : List LogStep) → Done t ss → IsRightFrom formula spare a ss) → TidiesOn m formula spare a old (Ok t) Done new → TidiesOn m formula spare a old (Err Memory) End new
-out_of_memory m formula spare a Done End old new t f h = record { steps = h.steps; told = h.told; done = tt; left = f h.steps h.done; torn = tt; faults = h.faults; failed = h.failed; frame = h.frame }
+out_of_memory m formula spare a Done End old new t f h = record { steps = h.steps; told = h.told; own = h.own; done = tt; left = f h.steps h.done; torn = tt; faults = h.faults; failed = h.failed; frame = h.frame }

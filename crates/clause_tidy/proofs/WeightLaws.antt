@@ -1,7 +1,8 @@
 -- Changes that leave less.
-use Rattle.std.proofs.Common.{◌≡◌, refl, ap, ℕ, zero, suc, ◌+◌, ◌<◌, true, List, [], ◌∷◌, ◌++◌, length, set, get_or, Option, Some, None, is_some, arith}
+use Rattle.std.proofs.Common.{◌≡◌, refl, ap, ℕ, zero, suc, ◌+◌, ◌<◌, ◌≤◌, true, List, [], ◌∷◌, ◌++◌, length, set, get_or, Option, Some, None, is_some, arith}
 use Rattle.clause_arena.specs.Clauses.{ArenaState, Stored, clause_at, IsLive, literals_at, literals_in, kept}
 use Rattle.clause_arena.proofs.PackingLaws.{live_within}
+use Rattle.clause_tidy.specs.Tautologies.{IsLeft}
 use Rattle.clause_tidy.specs.Weights.{weight_of, weights, weight}
 
 weights_set : (os : List (Option Stored)) (r : ℕ) (o : Option Stored) → r < length os → weights (set os r o) + weight_of (get_or os r None) ≡ weights os + weight_of o
@@ -45,3 +46,20 @@ less_shorter a b r new live short e =
     let three = ap weights e in
     let four = weights_append (set a.clauses r None) (Some new ∷ []) in
     omega (arith, one, two, three, four, short)
+
+-- what is left weighs no more
+no_more_here : (x y : Option Stored) → (is_some y ≡ true → y ≡ x) → weight_of y ≤ weight_of x
+no_more_here x None f = omega arith
+no_more_here x (Some c) f = let e = ap weight_of (f refl) in omega (arith, e)
+
+weights_left : (xs ys : List (Option Stored)) → length ys ≡ length xs → ((q : ℕ) → is_some (get_or ys q None) ≡ true → get_or ys q None ≡ get_or xs q None) → weights ys ≤ weights xs
+weights_left xs [] long same = omega arith
+weights_left [] (y ∷ ys) long same = absurd (omega (arith, long))
+weights_left (x ∷ xs) (y ∷ ys) long same =
+    let rest = weights_left xs ys (omega (arith, long)) (λ q l. same (suc q) l) in
+    let here = no_more_here x y (same 0) in
+    omega (arith, rest, here)
+
+pub left_weighs : (a b : ArenaState) → IsLeft a b → weight b ≤ weight a
+unfolding weight
+left_weighs a b h = weights_left a.clauses b.clauses h.size h.same

@@ -1,5 +1,6 @@
 -- What calls of a tidying leave: the arena, and the log up to an answer.
 use Rattle.std.specs.Prelude.{◌≡◌, ◌≢◌, ◌⊎◌, ℕ, false, List, Option, Some, None, Result, OnErr, IfOk, IsTrue, IsFalse}
+use Rattle.std.specs.List.{AllByRecursion}
 use Rattle.cx_base.specs.Assumptions.{is_ending}
 use Rattle.cx_base.specs.Literals.{Literal}
 use Rattle.cx_base.specs.Problem.{Problem}
@@ -8,17 +9,18 @@ use Rattle.cx_base.specs.declared.steps.LogEvent.TheVariants.{Step}
 use Rattle.cx_base.specs.declared.steps.LogStep.{LogStep}
 use Rattle.cx_semantics.specs.Chain.{is_inside}
 use Rattle.cx_semantics.specs.Fresh.{is_tautology}
+use Rattle.cx_semantics.specs.Ids.{id_of}
 use Rattle.cx_semantics.specs.Judging.{IsRight}
 use Rattle.cx_semantics.specs.LogRules.{log_calculus}
 use Rattle.cx_semantics.specs.Tables.{Tables}
-use Rattle.clause_arena.specs.Clauses.{ArenaState, IsLive, literals_at, learned_at}
+use Rattle.clause_arena.specs.Clauses.{ArenaState, IsLive, literals_at, id_at, learned_at}
 use Rattle.step_text.specs.declared.sink.Sink as sink
 use Rattle.step_text.specs.declared.sink.SinkFault.{SinkFault}
 use Rattle.step_text.specs.Sinks.{SinkFaultsAs, HasFailedAs, OnFailed}
 use Rattle.clause_tidy.specs.declared.pairs.Pair.{Pair}
 use Rattle.clause_tidy.specs.Agreeing.{Agrees, AreProper, IsStepId}
 use Rattle.tidy_rules.specs.Runs.{RunsTidily, EndsTidily}
-use Rattle.clause_tidy.specs.Telling.{as_events, with_events}
+use Rattle.clause_tidy.specs.Telling.{IsTellable, as_events, with_events}
 use Rattle.clause_tidy.specs.Derived.{IsDerived}
 use Rattle.clause_tidy.specs.Tidying.{IsClauseOf, Tidies}
 
@@ -57,21 +59,26 @@ pub record IsEnded (formula : Problem) (spare : ℕ) (a : ArenaState) (lits : Li
 abbrev pub MayFollow : Problem → ℕ → ArenaState → List LogStep → LogStep → Type 0
 MayFollow formula spare a steps step = (tables : Tables) → Agrees spare tables.clauses a → (last : Tables) × RunsTidily formula tables steps last × IsRight (log_calculus formula) last step
 
--- the sink was told such steps, after what it was told before
-abbrev pub IsTold : {L : Type 0} → sink.Ghosts L LogEvent → L → (List LogStep → Type 0) → L → Type 0
-IsTold m old Such new = (steps : List LogStep) × (m.items new ≡ with_events (as_events steps) (m.items old)) × Such steps
+-- the id of the step is the spare one, or that of a clause of the arena
+abbrev pub HasOwnId : ℕ → ArenaState → LogStep → Type 0
+HasOwnId spare a step = (id_of step ≡ spare) ⊎ ((r : ℕ) × IsLive a r × (id_at a r ≡ id_of step))
 
--- a step is torn that is right after these
+-- the sink was told such steps, each of such an id, after what it was told before
+abbrev pub IsTold : {L : Type 0} → sink.Ghosts L LogEvent → ℕ → ArenaState → L → (List LogStep → Type 0) → L → Type 0
+IsTold m spare a old Such new = (steps : List LogStep) × (m.items new ≡ with_events (as_events steps) (m.items old)) × AllByRecursion (HasOwnId spare a) steps × Such steps
+
+-- a step of such an id is torn that is right after these, and a text can have it
 abbrev pub IsTornAfter : {L : Type 0} → sink.Ghosts L LogEvent → Problem → ℕ → ArenaState → L → List LogStep → Type 0
-IsTornAfter m formula spare a new steps = (step : LogStep) × m.torn new (Step step) × MayFollow formula spare a steps step
+IsTornAfter m formula spare a new steps = (step : LogStep) × m.torn new (Step step) × IsTellable step × HasOwnId spare a step × MayFollow formula spare a steps step
 
--- Some steps are told. Up to an answer they are what it says; up to a fault they are right, and after one of writing a step that is right after them is torn.
+-- Some steps are told, each of the spare id or of that of a clause of the arena. Up to an answer they are what it says; up to a fault they are right, and after one of writing a step that is right after them is torn.
 pub record TidiesOn {L T : Type 0} (m : sink.Ghosts L LogEvent) (formula : Problem) (spare : ℕ) (a : ArenaState) (old : L) (result : Result T SinkFault) (Done : T → List LogStep → Type 0) (new : L) : Type 0 where
   pub steps : List LogStep
   pub told : m.items new ≡ with_events (as_events steps) (m.items old)
+  pub own : AllByRecursion (HasOwnId spare a) steps
   pub done : IfOk result (λ t. Done t steps)
   pub left : OnErr result (IsRightFrom formula spare a steps)
-  pub torn : OnFailed result ((step : LogStep) × m.torn new (Step step) × MayFollow formula spare a steps step)
+  pub torn : OnFailed result (IsTornAfter m formula spare a new steps)
   pub faults : SinkFaultsAs result (m.faults old) (m.faults new)
   pub failed : HasFailedAs result (m.has_failed old) (m.has_failed new)
   pub frame : m.keeps old new

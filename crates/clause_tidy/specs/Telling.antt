@@ -22,9 +22,13 @@ TellsAll torn events old (Ok done) new = new ≡ with_events events old
 TellsAll torn events old (Err fault) new =
     (k : ℕ) × (k < length events) × (new ≡ with_events (take k events) old) × (fault ≡ Failed → torn (get_or events k (Conflict 0)))
 
+-- the sink has torn this event, which a text can have
+abbrev pub IsTornIn : {L : Type 0} → sink.Ghosts L LogEvent → L → LogEvent → Type 0
+IsTornIn m log event = m.torn log event × HasText event
+
 -- The sink is told these events, or a prefix of them up to a fault. What the sink keeps is kept.
 pub record TellsIn {L T : Type 0} (m : sink.Ghosts L LogEvent) (events : List LogEvent) (old : L) (result : Result T SinkFault) (new : L) : Type 0 where
-  pub told : TellsAll (m.torn new) events (m.items old) result (m.items new)
+  pub told : TellsAll (IsTornIn m new) events (m.items old) result (m.items new)
   pub faults : SinkFaultsAs result (m.faults old) (m.faults new)
   pub failed : HasFailedAs result (m.has_failed old) (m.has_failed new)
   pub frame : m.keeps old new

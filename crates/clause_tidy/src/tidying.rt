@@ -11,7 +11,7 @@ ghost use Rattle.clause_tidy.specs.Derived.{IsDerived};
 ghost use Rattle.clause_tidy.specs.Done.{AgreesAgain, IfDone, IfEnded, IsCoveredBy, TidiesTo, TakesUnits};
 ghost use Rattle.clause_tidy.specs.Pairs.{NoneBears};
 ghost use Rattle.clause_tidy.specs.Taking.{IsWide};
-ghost use Rattle.clause_tidy.specs.Tidying.{IsClauseOf};
+ghost use Rattle.clause_tidy.specs.Tidying.{IsClauseOf, WasOrCame};
 
 use crate::outcome::TidyOf;
 use crate::tautologies::drop_tautologies;
@@ -121,12 +121,13 @@ pub fn tidy<L: Sink<Item = LogEvent>>(
     ensures derived { IfDone result (λ units ids. (p : TidyPart) → IsPart arena.new units p → IsDerived (IsClauseOf arena.old) (lits_in arena.new p)) }
     ensures learned { IfDone result (λ units ids. (q : ℕ) → IsLive arena.new q → IsTrue (learned_at arena.new q) → clause_at arena.new q ≡ clause_at arena.old q) }
     ensures wide { IfDone result (λ units ids. (q : ℕ) → length arena.old.clauses ≤ q → IsWide arena.new q) }
-    ensures agrees { IfDone result (λ units ids. IsTold L.Sink log.old (AgreesAgain formula.now spare arena.old arena.new units ids) log.new) }
+    ensures was { IfDone result (λ units ids. (q : ℕ) → IsLive arena.new q → WasOrCame formula.now arena.old arena.new q) }
+    ensures agrees { IfDone result (λ units ids. IsTold L.Sink spare arena.old log.old (AgreesAgain formula.now spare arena.old arena.new units ids) log.new) }
     ensures ending { IfEnded result (λ lits. IsTrue (is_ending formula.now.constraints lits)) }
     ensures ended { IfEnded result (λ lits. IsDerived (IsClauseOf arena.old) lits) }
-    ensures ends { IfEnded result (λ lits. IsTold L.Sink log.old (EndsFrom formula.now spare arena.old lits) log.new) }
-    ensures left { OnErr result (IsTold L.Sink log.old (IsRightFrom formula.now spare arena.old) log.new) }
-    ensures torn { OnFailed result (IsTold L.Sink log.old (IsTornAfter L.Sink formula.now spare arena.old log.new) log.new) }
+    ensures ends { IfEnded result (λ lits. IsTold L.Sink spare arena.old log.old (EndsFrom formula.now spare arena.old lits) log.new) }
+    ensures left { OnErr result (IsTold L.Sink spare arena.old log.old (IsRightFrom formula.now spare arena.old) log.new) }
+    ensures torn { OnFailed result (IsTold L.Sink spare arena.old log.old (IsTornAfter L.Sink formula.now spare arena.old log.new) log.new) }
     ensures faults { SinkFaultsAs result (L.Sink.faults log.old) (L.Sink.faults log.new) }
     ensures failed { HasFailedAs result (L.Sink.has_failed log.old) (L.Sink.has_failed log.new) }
     ensures frame { L.Sink.keeps log.old log.new }

@@ -1,5 +1,6 @@
 -- What the steps of a tidying do to the log's live clauses.
 use Rattle.std.specs.Prelude.{◌≡◌, ◌≢◌, ◌⊎◌, ℕ, ℤ, List, [], ◌∷◌, ◌++◌, Some, None, IsTrue, IsFalse}
+use Rattle.std.specs.List.{AllByRecursion}
 use Rattle.cx_base.specs.Literals.{Literal}
 use Rattle.cx_base.specs.Problem.{Problem}
 use Rattle.cx_base.specs.Integers.{literals}
@@ -37,6 +38,10 @@ IsTidyStep table (MoveParities moves) = ⊥
 -- each id that was free is free
 abbrev pub KeepsFree : Table → Table → Type 0
 KeepsFree old new = (n : ℕ) → get old n ≡ None → get new n ≡ None
+
+-- no step deletes the clause of this id
+abbrev pub NoneDeletes : ℕ → List LogStep → Type 0
+NoneDeletes n steps = AllByRecursion (λ step. (zs : List ℤ) → step ≢ Delete n zs) steps
 
 -- each step is right and such a step, and none ends the log
 abbrev pub RunsTidily : Problem → Tables → List LogStep → Tables → Type 0

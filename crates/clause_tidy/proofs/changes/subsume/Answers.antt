@@ -15,7 +15,7 @@ returns-clause-tidies g c = λ formula spare.
     let b = c.keep_for.new.arena in
     let d = c.drop_clause.new.arena in
     let kept = c.keep_for.ensures.tidies formula spare in
-    goes_on formula spare a b [] kept g.L.Sink (λ _. Tidies formula spare b d) (λ _. Tidies formula spare a d) c.args.log.now c.args.log.now c.drop_clause.new.log c.drop_clause.result
+    goes_on formula spare a b [] kept g.L.Sink (λ _. Tidies formula spare b d) (λ _. Tidies formula spare a d) c.args.log.now c.args.log.now c.drop_clause.new.log c.drop_clause.result tt
     (sym (no_more (g.L.Sink.items c.args.log.now))) refl refl (λ k. k) (λ _ ts t. tidied_on formula spare a b d [] ts kept t) (c.drop_clause.ensures.tidies formula spare)
 
 pub returns-clause-shrinks : goal.returns-clause-shrinks

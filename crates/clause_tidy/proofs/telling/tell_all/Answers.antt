@@ -6,7 +6,7 @@ use Rattle.cx_base.specs.declared.steps.LogStep.{LogStep}
 use Rattle.cx_base.specs.declared.steps.LogEvent.{LogEvent}
 use Rattle.cx_base.specs.declared.steps.LogEvent.TheVariants.{Step}
 use Rattle.step_text.specs.Sinks.{SinkFaultsAs, HasFailedAs}
-use Rattle.clause_tidy.specs.Telling.{as_events, with_events}
+use Rattle.clause_tidy.specs.Telling.{IsTornIn, as_events, with_events}
 use Rattle.clause_tidy.proofs.Events.{more_and_more, stops_there}
 use Rattle.clause_tidy.proofs.telling.tell_all.Goals as goal
 
@@ -26,7 +26,7 @@ returns-in-Err g c =
     let road = YieldsList-from_vec c.args.steps.items c.into_iter-step-iterator.ensures.into_iter_gives.0 (c.into_iter-step-iterator.ensures.into_iter_gives.1 ∙ c.args.steps.ok.0) in
     let turn = YieldsList-turn road front _ c.loop-step.yielded_by c.next.result c.next.new.self c.in-Some.step c.in-Some.is c.next.ensures.steps in
     let so_far = sym (map-id front) ∙ YieldsList-so_far road front _ c.loop-step.yielded_by in
-    let told = stops_there (g.L.Sink.torn c.tell_one.new.log) c.args.steps.items (length front) c.in-Some.step first (g.L.Sink.items c.loop-step.log) (g.L.Sink.items c.tell_one.new.log) c.in-Err.fault
+    let told = stops_there (IsTornIn g.L.Sink c.tell_one.new.log) c.args.steps.items (length front) c.in-Some.step first (g.L.Sink.items c.loop-step.log) (g.L.Sink.items c.tell_one.new.log) c.in-Err.fault
     turn.0 turn.1 (c.loop-step.invariant.0 ∙ ap (λ steps. with_events (as_events steps) first) so_far) c.in-Err.ensures.told in
     record {
       told = told;

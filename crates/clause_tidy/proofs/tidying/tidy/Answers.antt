@@ -8,7 +8,7 @@ use Rattle.clause_tidy.specs.Answers.{EndsFrom}
 use Rattle.clause_tidy.specs.Derived.{IsDerived}
 use Rattle.clause_tidy.specs.Done.{AgreesAgain, IsCoveredBy}
 use Rattle.clause_tidy.specs.Taking.{IsWide}
-use Rattle.clause_tidy.specs.Tidying.{IsClauseOf}
+use Rattle.clause_tidy.specs.Tidying.{IsClauseOf, WasOrCame}
 use Rattle.clause_tidy.proofs.AnswerLaws
 use Rattle.clause_tidy.proofs.tidying.tidy.Goals as goal
 
@@ -32,6 +32,7 @@ returns g c =
       derived = AnswerLaws.when_done g.L.Sink f s a b old new (λ units ids. (p : TidyPart) → IsPart b units p → IsDerived (IsClauseOf a) (lits_in b p)) (λ units ids steps t. t.derived) r told;
       learned = AnswerLaws.when_done g.L.Sink f s a b old new (λ units ids. (q : ℕ) → IsLive b q → IsTrue (learned_at b q) → clause_at b q ≡ clause_at a q) (λ units ids steps t. t.learned) r told;
       wide = AnswerLaws.when_done g.L.Sink f s a b old new (λ units ids. (q : ℕ) → length a.clauses ≤ q → IsWide b q) (λ units ids steps t. t.wide) r told;
+      was = AnswerLaws.when_done g.L.Sink f s a b old new (λ units ids. (q : ℕ) → IsLive b q → WasOrCame f a b q) (λ units ids steps t. t.was) r told;
       agrees = AnswerLaws.told_when_done g.L.Sink f s a b old new (AgreesAgain f s a b) (λ units ids steps t. t.runs) r told;
       ending = AnswerLaws.when_ended g.L.Sink f s a b old new (λ lits. IsTrue (is_ending f.constraints lits)) (λ lits steps e. e.ending) r told;
       ended = AnswerLaws.when_ended g.L.Sink f s a b old new (IsDerived (IsClauseOf a)) (λ lits steps e. e.derived) r told;

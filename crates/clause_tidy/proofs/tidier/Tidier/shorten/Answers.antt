@@ -26,7 +26,7 @@ returns-in-Err-clause-tidies g c = nothing_on g.L.Sink c.args.arena.now c.args.l
 pub returns-in-Err-tell_shortening-clause-tidies : goal.returns-in-Err-tell_shortening-clause-tidies
 returns-in-Err-tell_shortening-clause-tidies g c =
     shorter_told c.args.self.now.formula.now c.args.self.now.spare c.args.arena.now c.args.pair.now.part c.args.pair.now.whole c.requires.live.whole c.requires.live.part c.args.rest.now c.requires.shorter c.requires.may.proper g.L.Sink c.args.log.now c.tell_shortening.new.log (Err c.in-Err-tell_shortening.fault)
-    c.add.new.self 0 c.requires.goes_on (λ t e. no_answer c.in-Err-tell_shortening.fault t e)
+    c.add.new.self 0 c.requires.goes_on c.requires.short (λ t e. no_answer c.in-Err-tell_shortening.fault t e)
     (subst (λ k. TellsIn {T = Unit {0}} g.L.Sink (as_events (shortening c.args.self.now.spare k (id_at c.args.arena.now c.args.pair.now.whole) (integers_of c.args.rest.now))) c.args.log.now (Err c.in-Err-tell_shortening.fault) c.tell_shortening.new.log) c.id-by.ensures
     (subst (λ n. TellsIn {T = Unit {0}} g.L.Sink (as_events (shortening c.args.self.now.spare c.id-by.result n (integers_of c.args.rest.now))) c.args.log.now (Err c.in-Err-tell_shortening.fault) c.tell_shortening.new.log) c.id-id.ensures c.in-Err-tell_shortening.ensures))
 
@@ -35,7 +35,7 @@ returns-in-Ok-tell_shortening-clause-tidies g c =
     let a = c.args.arena.now in
     let added = c.in-Ok.ensures.added ∙ ap (λ (n : ℕ). a.clauses ++ Some (record { literals = c.args.rest.now; id = n; lbd = c.lbd-lbd.result; learned = false }) ∷ []) c.id-id.ensures in
     shorter_told c.args.self.now.formula.now c.args.self.now.spare a c.args.pair.now.part c.args.pair.now.whole c.requires.live.whole c.requires.live.part c.args.rest.now c.requires.shorter c.requires.may.proper g.L.Sink c.args.log.now c.tell_shortening.new.log (Ok tt)
-    c.remove.new.self c.lbd-lbd.result c.requires.goes_on
+    c.remove.new.self c.lbd-lbd.result c.requires.goes_on c.requires.short
     (λ t e. grown_then_removed a c.add.new.self c.remove.new.self c.args.pair.now.whole _ c.requires.live.whole added (ap (λ (x : ArenaState). x.clauses) c.remove.ensures))
     (subst (λ k. TellsIn {T = Unit {0}} g.L.Sink (as_events (shortening c.args.self.now.spare k (id_at a c.args.pair.now.whole) (integers_of c.args.rest.now))) c.args.log.now (Ok tt) c.tell_shortening.new.log) c.id-by.ensures
     (subst (λ n. TellsIn {T = Unit {0}} g.L.Sink (as_events (shortening c.args.self.now.spare c.id-by.result n (integers_of c.args.rest.now))) c.args.log.now (Ok tt) c.tell_shortening.new.log) c.id-id.ensures c.in-Ok-tell_shortening.ensures))
