@@ -20,7 +20,7 @@ use Rattle.cx_semantics.proofs.SameSets.{AllSame, HaveSame-by_test, chain_same}
 use Rattle.conflict_learn.proofs.ChainOfResolutions.{by_cases}
 use Rattle.search_steps.specs.Hints.{AreHintsFor}
 use Rattle.search_steps.specs.LogSteps.{IsAddition}
-use Rattle.search_steps.specs.Search.{Search, IsSearch, told}
+use Rattle.search_steps.specs.Search.{Search, IsSearchIn, told}
 use Rattle.search_steps.specs.Tied.{IsLiveOr}
 use Rattle.search_steps.proofs.LogLaws.{IsReached, reached_is_known, step_goes_on}
 use Rattle.search_steps.proofs.ServesLaws.{put_serves}
@@ -174,10 +174,10 @@ module _ (table : Table) (c : List Literal) (clauses : List (List Literal)) (are
   ]
 
 -- such a unit clause keeps the search, where no level is quiet
-pub beside_unit_keeps : (formula : Problem) (parities : List (List Literal)) (s : Search) → IsSearch formula parities s → s.quiet_levels ≡ 0 → (n : ℕ) (z : ℤ) (hints : List ℤ) → IsAddition formula s.moment.tables.clauses n (z ∷ []) → AreHintsFor s.moment.tables.clauses (literal z ∷ []) hints
+pub beside_unit_keeps : {tidies : Bool} (formula : Problem) (parities : List (List Literal)) (s : Search) → IsSearchIn tidies formula parities s → s.quiet_levels ≡ 0 → (n : ℕ) (z : ℤ) (hints : List ℤ) → IsAddition formula s.moment.tables.clauses n (z ∷ []) → AreHintsFor s.moment.tables.clauses (literal z ∷ []) hints
     → derives_ending_clause formula (ClauseWithHints n (z ∷ []) hints) ≡ false → s.moment.awaits ≡ false
     → (c : List Literal) (clauses : List (List Literal)) → AllByRecursion (IsLiveOr s.moment.tables.clauses c) clauses → ((assumed : List Literal) → chain assumed clauses ≡ right)
-    → has_literal c (negate (literal z)) ≡ true → IsSearch formula parities (told s (Step (ClauseWithHints n (z ∷ []) hints)))
+    → has_literal c (negate (literal z)) ≡ true → IsSearchIn tidies formula parities (told s (Step (ClauseWithHints n (z ∷ []) hints)))
 beside_unit_keeps formula parities s ok level n z hints a hinted goes served c clauses are serves has =
     let l = literal z in
     let table = s.moment.tables.clauses in

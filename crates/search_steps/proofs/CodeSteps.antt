@@ -1,5 +1,5 @@
 -- The steps of the trail, said of the code's trail.
-use Rattle.std.proofs.Common.{◌≡◌, refl, sym, ap, ◌∙◌, subst, ℕ, suc, ◌+◌, ◌-◌, ◌<◌, ◌≤◌, nat_le, true, false, cond, ◌&&◌, List, [], ◌∷◌, ◌++◌, length, Some, ◌⊎◌, inl, inr, arith, true≢false, append-nil}
+use Rattle.std.proofs.Common.{Bool, ◌≡◌, refl, sym, ap, ◌∙◌, subst, ℕ, suc, ◌+◌, ◌-◌, ◌<◌, ◌≤◌, nat_le, true, false, cond, ◌&&◌, List, [], ◌∷◌, ◌++◌, length, Some, ◌⊎◌, inl, inr, arith, true≢false, append-nil}
 use Rattle.std.proofs.lemmas.Bool.{leb-true, leb-false, and_parts}
 use Rattle.std.proofs.lemmas.List.{length_push}
 use Rattle.cx_base.specs.Literals.{Literal, negate}
@@ -17,7 +17,7 @@ use Rattle.conflict_learn.specs.Learning.{IsOfLevel}
 use Rattle.conflict_learn.proofs.ChainOfResolutions.{by_cases}
 use Rattle.search_steps.specs.Trail.{Entry, by_clause, by_row, held, all_held, back_to, level_of, Forces}
 use Rattle.search_steps.specs.Quiet.{Quiet, RestsOn, IsOfParities}
-use Rattle.search_steps.specs.Search.{Search, IsSearch, decided_on, forced_on}
+use Rattle.search_steps.specs.Search.{Search, IsSearchIn, decided_on, forced_on}
 use Rattle.search_steps.specs.Tied.{IsTied, IsLiveSet, Mirrors, ForcesOn}
 use Rattle.search_steps.proofs.Sets.{not_both}
 use Rattle.search_steps.proofs.QuietLaws.{implied_rests}
@@ -28,13 +28,13 @@ use Rattle.search_steps.proofs.Bridge.{entry_last, to_held, true_is_held, open_i
 pub forces_by : (es : List Entry) (entries : List TrailEntry) (clause : List Literal) (l : Literal) → IsTied es entries → ForcesOn entries clause l → Forces clause (all_held es) l
 forces_by es entries clause l t f = record { has_it = f.has_it; others_false = λ m h n. true_is_held es entries t (negate m) (f.others_false m h n) }
 
-module _ (formula : Problem) (parities : List (List Literal)) (s : Search) (ok : IsSearch formula parities s) (t : TrailState) (follows : Mirrors s.trail t) (l : Literal) (reason : Reason) (is_open : IsOpenIn t.entries l.variable) where
+module _ {tidies : Bool} (formula : Problem) (parities : List (List Literal)) (s : Search) (ok : IsSearchIn tidies formula parities s) (t : TrailState) (follows : Mirrors s.trail t) (l : Literal) (reason : Reason) (is_open : IsOpenIn t.entries l.variable) where
   same_level : level_of s.trail ≡ t.level
   same_level = level_tied s.trail t follows.tied follows.sound
 
   -- what the watches put on the trail
   pub clause_step_keeps : (n : ℕ) (clause : List Literal) → s.quiet_levels ≤ t.level → get s.moment.tables.clauses n ≡ Some clause → ForcesOn t.entries clause l
-      → IsSearch formula parities (forced_on s l (by_clause n)) × IsTied (forced_on s l (by_clause n)).trail (pushed t t.level l reason).entries
+      → IsSearchIn tidies formula parities (forced_on s l (by_clause n)) × IsTied (forced_on s l (by_clause n)).trail (pushed t t.level l reason).entries
   clause_step_keeps n clause low live forces = (
     force_keeps formula parities s ok l (by_clause n) (let e = same_level in omega (arith, e, low)) (open_is_unassigned s.trail t.entries follows.tied l is_open)
         (refl, (clause, live, forces_by s.trail t.entries clause l follows.tied forces)),
@@ -43,7 +43,7 @@ module _ (formula : Problem) (parities : List (List Literal)) (s : Search) (ok :
 
   -- what a row implied
   pub row_step_keeps : (clause : List Literal) → s.quiet_levels ≤ t.level → IsOfParities formula.variables parities clause → ForcesOn t.entries clause l
-      → IsSearch formula parities (forced_on s l (by_row clause)) × IsTied (forced_on s l (by_row clause)).trail (pushed t t.level l reason).entries
+      → IsSearchIn tidies formula parities (forced_on s l (by_row clause)) × IsTied (forced_on s l (by_row clause)).trail (pushed t t.level l reason).entries
   row_step_keeps clause low of_row forces = (
     force_keeps formula parities s ok l (by_row clause) (let e = same_level in omega (arith, e, low)) (open_is_unassigned s.trail t.entries follows.tied l is_open)
         (refl, (of_row, forces_by s.trail t.entries clause l follows.tied forces)),
@@ -52,7 +52,7 @@ module _ (formula : Problem) (parities : List (List Literal)) (s : Search) (ok :
 
   -- a decision
   pub decision_step_keeps : s.quiet_levels ≡ t.level → Quiet formula.variables parities s.moment.tables.clauses (all_held s.trail)
-      → IsSearch formula parities (decided_on s l) × IsTied (decided_on s l).trail (pushed t (t.level + 1) l reason).entries
+      → IsSearchIn tidies formula parities (decided_on s l) × IsTied (decided_on s l).trail (pushed t (t.level + 1) l reason).entries
   decision_step_keeps levels quiet = (
     decide_keeps formula parities s ok l (levels ∙ sym same_level) quiet (open_is_unassigned s.trail t.entries follows.tied l is_open),
     (t.entries, record { literal = l; level = t.level + 1; reason = reason }, refl, refl, (let e = same_level in let f : t.level + 1 ≡ suc (level_of s.trail) = omega (arith, e) in f), follows.tied),
@@ -123,7 +123,7 @@ is_now es t f above m is_open q within at =
     (λ e. not_both (has_literal (held (t.level - 1) es) (negate m)) (ap (has_literal (held (t.level - 1) es)) (sym at) ∙ to_held (t.level - 1) es t.entries f.tied q within (leb-true _ _ e)) is_open)
     (λ e. let high = leb-false (entry_at t.entries q).level (t.level - 1) e in omega (arith, high, top, above))
 
-module _ (formula : Problem) (parities : List (List Literal)) (s : Search) (ok : IsSearch formula parities s) (t : TrailState) (follows : Mirrors s.trail t) (above : 0 < t.level) (levels : s.quiet_levels ≡ t.level) where
+module _ {tidies : Bool} (formula : Problem) (parities : List (List Literal)) (s : Search) (ok : IsSearchIn tidies formula parities s) (t : TrailState) (follows : Mirrors s.trail t) (above : 0 < t.level) (levels : s.quiet_levels ≡ t.level) where
   below : t.level - 1 < s.quiet_levels
   below = omega (arith, above, levels)
 

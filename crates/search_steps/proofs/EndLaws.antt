@@ -23,7 +23,7 @@ use Rattle.search_steps.specs.Laws.{HaveTheirs}
 use Rattle.search_steps.specs.Quiet.{Quiet, RestsOn, IsOfParities}
 use Rattle.search_steps.specs.Recovering.{SettledWithRecovered}
 use Rattle.search_steps.specs.Trail.{all_held}
-use Rattle.search_steps.specs.Search.{Search, IsSearch}
+use Rattle.search_steps.specs.Search.{Search, IsSearchIn}
 use Rattle.tidy_rules.proofs.InsideLaws.{some_member}
 use Rattle.search_steps.proofs.Sets.{not_both, tautology_rests}
 use Rattle.search_steps.proofs.Stored.{rests_around}
@@ -110,7 +110,7 @@ quiet_is_met formula parities table known values within theirs rests assumed q d
 }
 
 -- ---- logs at the end
-module _ (formula : Problem) (parities : List (List Literal)) (s : Search) (ok : IsSearch formula parities s) (served : s.moment.awaits ≡ false) where
+module _ {tidies : Bool} (formula : Problem) (parities : List (List Literal)) (s : Search) (ok : IsSearchIn tidies formula parities s) (served : s.moment.awaits ≡ false) where
   pub is_marked : Marked formula s.events s.conflicts
   is_marked = record { marks = ok.log.marks; originals = ok.log.originals; last = s.moment; fit = ok.log.fits; served = served }
 
@@ -118,7 +118,7 @@ module _ (formula : Problem) (parities : List (List Literal)) (s : Search) (ok :
   is_log_open = (ok.log.apart, (s.moment.tables, ok.log.runs))
 
 -- ---- the search, where both engines are quiet
-module _ (formula : Problem) (parities : List (List Literal)) (s : Search) (ok : IsSearch formula parities s) (quiet : Quiet formula.variables parities s.moment.tables.clauses (all_held s.trail))
+module _ {tidies : Bool} (formula : Problem) (parities : List (List Literal)) (s : Search) (ok : IsSearchIn tidies formula parities s) (quiet : Quiet formula.variables parities s.moment.tables.clauses (all_held s.trail))
     (theirs : HaveTheirs formula parities) where
   -- each clause of the formula rests, since it is a tautology or a live one lies inside it
   formula_rests : (clause : List Literal) → IsClauseOf formula clause → RestsOn (all_held s.trail) clause

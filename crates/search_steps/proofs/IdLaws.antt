@@ -1,5 +1,5 @@
 -- Each step keeps the ranges of ids.
-use Rattle.std.proofs.Common.{◌≡◌, refl, sym, ap, ◌∙◌, subst, ℕ, ◌+◌, ◌≤◌, ◌<◌, ℤ, true, false, cond, not, ◌||◌, nat_eq, nat_le, nat_lt, eqb-true, List, [], ◌∷◌, ◌++◌, length, Some, None, arith, inl, inr}
+use Rattle.std.proofs.Common.{Bool, ◌≡◌, refl, sym, ap, ◌∙◌, subst, ℕ, ◌+◌, ◌≤◌, ◌<◌, ℤ, true, false, cond, not, ◌||◌, nat_eq, nat_le, nat_lt, eqb-true, List, [], ◌∷◌, ◌++◌, length, Some, None, arith, inl, inr}
 use Rattle.std.specs.List.{AllByRecursion}
 use Rattle.std.specs.FinMap as map_
 use Rattle.std.proofs.lemmas.Bool.{or_parts, ltb-true, ltb-false}
@@ -15,7 +15,7 @@ use Rattle.cx_semantics.specs.Marked.{Moment, after_event, is_among, without}
 use Rattle.cx_semantics.specs.Tables.{Table, get}
 use Rattle.cx_semantics.proofs.Lookups.{Looks-insert, Looks-remove}
 use Rattle.search_steps.specs.Trail.{Entry, rests_on, decided, by_clause, by_row, back_to, level_of}
-use Rattle.search_steps.specs.Search.{Search, IsSearch, IsServed, IsLearnedOf, told, marked, decided_on, forced_on, jumped}
+use Rattle.search_steps.specs.Search.{Search, IsSearchIn, IsServed, IsLearnedOf, told, marked, decided_on, forced_on, jumped}
 use Rattle.search_steps.specs.LogSteps.{IsNoReason, IsAddition, AreTemporary, row_events, all_told, deleted, after_learned, after_round}
 use Rattle.search_steps.specs.Start.{IsBegun}
 use Rattle.search_steps.specs.Hints.{AreHintsFor}
@@ -220,7 +220,7 @@ module _ (formula : Problem) (bound next row_next : ℕ) where
         (λ e. let p = not_in_parts s.moment.new_clauses s.moment.old_clauses n e in inr (i.rows_free n high p.0 p.1))
 
     -- so without one of them each clause of the formula is covered still
-    pub high_is_spared : (parities : List (List Literal)) → IsSearch formula parities s → (n : ℕ) → bound ≤ n → IsSpared formula s.moment n
+    pub high_is_spared : {tidies : Bool} (parities : List (List Literal)) → IsSearchIn tidies formula parities s → (n : ℕ) → bound ≤ n → IsSpared formula s.moment n
     high_is_spared parities ok n high = spared_where_none formula s.moment n (high_covers_none n high) ok.covered
 
     -- a clause below the bound covers each that it lies inside
@@ -275,8 +275,8 @@ module _ (formula : Problem) (bound next row_next : ℕ) (s : Search) (i : IsRan
       anew_ranged formula bound (n + 1) row_next (after_round s n zs hints back l) r4 (round_clears_new s n zs hints back l) (round_clears_old s n zs hints back l none)
 
   -- so with ranges a round asks nothing more of ids
-  pub ranged_round_keeps : (parities : List (List Literal)) → IsSearch formula parities s → (l : Literal) → IsServed s → s.quiet_levels ≡ level_of s.trail → IsAddition formula s.moment.tables.clauses n zs
-      → derives_ending_clause formula (ClauseWithHints n zs hints) ≡ false → AreHintsFor s.moment.tables.clauses (literals zs) hints → IsLearnedOf s.trail back (literals zs) l → IsSearch formula parities (after_round s n zs hints back l)
+  pub ranged_round_keeps : {tidies : Bool} (parities : List (List Literal)) → IsSearchIn tidies formula parities s → (l : Literal) → IsServed s → s.quiet_levels ≡ level_of s.trail → IsAddition formula s.moment.tables.clauses n zs
+      → derives_ending_clause formula (ClauseWithHints n zs hints) ≡ false → AreHintsFor s.moment.tables.clauses (literals zs) hints → IsLearnedOf s.trail back (literals zs) l → IsSearchIn tidies formula parities (after_round s n zs hints back l)
   ranged_round_keeps parities ok l served levels a goes right learned = round_keeps formula parities s ok n zs hints back l served levels a goes right learned
       (row_ids_are_temporary formula bound (n + 1) row_next (after_learned s n zs hints back) learned_ranged s.moment.new_clauses i.new_rows)
       (low_is_no_row formula bound next row_next s i n high)

@@ -32,3 +32,4 @@ pub mod TidyLineLaws
 pub mod SizeLaws
 pub mod TidySteps
 mod TidyIds
+mod TidyCounts

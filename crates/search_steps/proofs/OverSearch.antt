@@ -20,7 +20,7 @@ use Rattle.search_steps.specs.Laws.{HaveTheirs}
 use Rattle.search_steps.specs.Recovering.{HasRecovered}
 use Rattle.search_steps.specs.Trail.{Entry, all_held, back_to, IsTrail}
 use Rattle.search_steps.specs.Quiet.{IsOfParities}
-use Rattle.search_steps.specs.Search.{Search, IsSearch, IsLearnedOf}
+use Rattle.search_steps.specs.Search.{Search, IsSearchIn, IsLearnedOf}
 use Rattle.search_steps.specs.LogSteps.{RestOnClauses}
 use Rattle.cx_trail.specs.declared.entry.Entry.{Entry as TrailEntry}
 use Rattle.search_steps.specs.Propagated.{IsPropagated}
@@ -54,7 +54,7 @@ pub older_is_trail : (table : Table) (IsRow : List Literal → Type 0) (newer ol
 older_is_trail table IsRow [] older t = t
 older_is_trail table IsRow (x ∷ newer) older t = older_is_trail table IsRow newer older t.2
 
-module _ (formula : Problem) (parities : List (List Literal)) (s : Search) (ok : IsSearch formula parities s) where
+module _ {tidies : Bool} (formula : Problem) (parities : List (List Literal)) (s : Search) (ok : IsSearchIn tidies formula parities s) where
   pub no_clash : Rattle.search_steps.specs.Quiet.HasNoClash (all_held s.trail)
   no_clash = trail_no_clash s.moment.tables.clauses (IsOfParities formula.variables parities) s.trail ok.serves.stands
 
@@ -64,7 +64,7 @@ module _ (formula : Problem) (parities : List (List Literal)) (s : Search) (ok :
       taught_is_learned s.moment.tables.clauses (IsOfParities formula.variables parities) s.trail ok.serves.stands t f.sound f.tied above conflict holds resolved lits back lbd
 
   pub propagated_search : (t : TrailState) → Mirrors s.trail t → s.quiet_levels ≤ t.level → (bound : ℕ) (more : List TrailEntry) → AreForcedBehind s.moment.tables.clauses bound t.level t.entries more
-      → IsPropagated formula parities bound s (t.entries ++ more)
+      → IsPropagated tidies formula parities bound s (t.entries ++ more)
   propagated_search t f low bound more forced = propagation_keeps formula parities bound t.level s ok low (level_tied s.trail t f.tied f.sound) t.entries f.tied more forced
 
   module _ (newer older : List Entry) (parts : s.trail ≡ newer ++ older) where

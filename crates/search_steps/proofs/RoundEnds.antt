@@ -1,12 +1,12 @@
 -- What holds after a whole conflict: the search is tidy, and the code's trail is that of the calculus.
-use Rattle.std.proofs.Common.{◌≡◌, refl, sym, ap, ◌∙◌, subst, ℕ, ℤ, List, [], ◌++◌, arith}
+use Rattle.std.proofs.Common.{Bool, ◌≡◌, refl, sym, ap, ◌∙◌, subst, ℕ, ℤ, List, [], ◌++◌, arith}
 use Rattle.cx_base.specs.Literals.{Literal}
 use Rattle.cx_base.specs.Problem.{Problem}
 use Rattle.cx_trail.specs.declared.entry.Reason.{Reason}
 use Rattle.cx_trail.specs.Sequence.{TrailState, TakesBack, IsOpenIn, pushed}
 use Rattle.search_steps.specs.Trail.{back_to, level_of}
 use Rattle.search_steps.specs.Quiet.{IsOfParities}
-use Rattle.search_steps.specs.Search.{Search, IsSearch, IsServed, IsTidy, IsLearnedOf}
+use Rattle.search_steps.specs.Search.{Search, IsSearchIn, IsServed, IsTidy, IsLearnedOf}
 use Rattle.search_steps.specs.LogSteps.{IsRowReason, row_events, all_told, deleted, after_learned, after_round}
 use Rattle.search_steps.specs.Tied.{IsTied}
 use Rattle.search_steps.proofs.TrailLaws.{back_level}
@@ -18,7 +18,7 @@ use Rattle.search_steps.proofs.Bridge.{unassigned_is_open}
 both_empty : (xs ys : List ℕ) → xs ≡ [] → ys ≡ [] → xs ++ ys ≡ []
 both_empty xs ys a b = ap (λ zs. zs ++ ys) a ∙ b
 
-module _ (formula : Problem) (parities : List (List Literal)) (s : Search) (ok : IsSearch formula parities s) (n : ℕ) (zs hints : List ℤ) (back : ℕ) (l : Literal) (learned : IsLearnedOf s.trail back (Rattle.cx_base.specs.Integers.literals zs) l) where
+module _ {tidies : Bool} (formula : Problem) (parities : List (List Literal)) (s : Search) (ok : IsSearchIn tidies formula parities s) (n : ℕ) (zs hints : List ℤ) (back : ℕ) (l : Literal) (learned : IsLearnedOf s.trail back (Rattle.cx_base.specs.Integers.literals zs) l) where
   abbrev IsRow : List Literal → Type 0
   IsRow = IsOfParities formula.variables parities
 

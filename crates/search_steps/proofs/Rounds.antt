@@ -15,7 +15,7 @@ use Rattle.cx_semantics.proofs.Closure.{has_by_inside}
 use Rattle.search_steps.specs.Trail.{by_clause, held, all_held, back_to, level_of, IsTrail, IsUnassigned, Forces}
 use Rattle.search_steps.specs.Hints.{AreHintsFor}
 use Rattle.search_steps.specs.Quiet.{IsOfParities}
-use Rattle.search_steps.specs.Search.{Search, IsSearch, IsServed, IsLearnedOf, told, marked, jumped}
+use Rattle.search_steps.specs.Search.{Search, IsSearchIn, IsServed, IsLearnedOf, told, marked, jumped}
 use Rattle.search_steps.specs.LogSteps.{IsAddition, AreTemporary, deleted, after_learned, after_round}
 use Rattle.conflict_learn.proofs.ChainOfResolutions.{by_cases}
 use Rattle.search_steps.proofs.Sets.{not_both}
@@ -29,7 +29,7 @@ pub temporary_still : (s : Search) (n : ℕ) (ids : List ℕ) → AreTemporary s
 temporary_still s n [] t = tt
 temporary_still s n (m ∷ ids) t = ((covers_none_still s.moment n m t.0.0, still_not s.moment.learned n m t.0.1, t.0.2), temporary_still s n ids t.1)
 
-pub deleted_keeps : (formula : Problem) (parities : List (List Literal)) (s : Search) → IsSearch formula parities s → (ids : List ℕ) → AreTemporary s ids → IsSearch formula parities (deleted s ids)
+pub deleted_keeps : {tidies : Bool} (formula : Problem) (parities : List (List Literal)) (s : Search) → IsSearchIn tidies formula parities s → (ids : List ℕ) → AreTemporary s ids → IsSearchIn tidies formula parities (deleted s ids)
 deleted_keeps formula parities s ok [] t = ok
 deleted_keeps formula parities s ok (n ∷ ids) t =
     deleted_keeps formula parities (told s (Step (Delete n []))) (delete_keeps formula parities s ok n [] (record { covers_none = t.0.0; not_learned = t.0.1 }) t.0.2) ids (temporary_still s n ids t.1)
@@ -95,10 +95,10 @@ module _ (table : Table) (IsRow : List Literal → Type 0) (s : Search) (t : IsT
   )
 
 -- ---- the round
-module _ (formula : Problem) (parities : List (List Literal)) (s : Search) (ok : IsSearch formula parities s) (n : ℕ) (zs hints : List ℤ) (back : ℕ) (l : Literal) where
+module _ {tidies : Bool} (formula : Problem) (parities : List (List Literal)) (s : Search) (ok : IsSearchIn tidies formula parities s) (n : ℕ) (zs hints : List ℤ) (back : ℕ) (l : Literal) where
   -- The mark, the learned clause, the deletion of what is temporary, the jump back, and the literal that the clause forces.
   pub round_keeps : IsServed s → s.quiet_levels ≡ level_of s.trail → IsAddition formula s.moment.tables.clauses n zs → derives_ending_clause formula (ClauseWithHints n zs hints) ≡ false → AreHintsFor s.moment.tables.clauses (literals zs) hints → IsLearnedOf s.trail back (literals zs) l
-      → AreTemporary (after_learned s n zs hints back) s.moment.new_clauses → is_among s.moment.new_clauses n ≡ false → IsSearch formula parities (after_round s n zs hints back l)
+      → AreTemporary (after_learned s n zs hints back) s.moment.new_clauses → is_among s.moment.new_clauses n ≡ false → IsSearchIn tidies formula parities (after_round s n zs hints back l)
   round_keeps served levels a goes right learned temporary apart =
       let IsRow = IsOfParities formula.variables parities in
       let s1 = marked s in

@@ -8,7 +8,7 @@ use Rattle.cx_base.specs.Integers.{literals}
 use Rattle.cx_semantics.specs.Marked.{without, is_among}
 use Rattle.cx_semantics.specs.Tables.{get}
 use Rattle.cx_semantics.proofs.Lookups.{Looks-insert}
-use Rattle.search_steps.specs.Search.{Search, IsSearch, told}
+use Rattle.search_steps.specs.Search.{Search, IsSearchIn, told}
 use Rattle.search_steps.specs.LogSteps.{IsRowReason, row_events, all_told}
 use Rattle.conflict_learn.proofs.ChainOfResolutions.{by_cases}
 use Rattle.search_steps.proofs.Sets.{not_both}
@@ -19,14 +19,14 @@ same_id : (k : ℕ) → nat_eq k k ≡ true
 same_id k = eq-eqb k k refl
 
 module _ (formula : Problem) (parities : List (List Literal)) (s : Search) (k : ℕ) (rs : List ℤ) (ids : List ℕ) (n : ℕ) (zs : List ℤ) (r : IsRowReason formula parities s k rs ids n zs) where
-  pub row_reason_keeps : IsSearch formula parities s → IsSearch formula parities (all_told s (row_events k rs ids n zs))
-  row_reason_keeps ok =
+  pub row_reason_keeps : {tidies : Bool} → IsSearchIn tidies formula parities s → IsSearchIn tidies formula parities (all_told s (row_events k rs ids n zs))
+  row_reason_keeps {tidies} ok =
       let s1 = told s (Step (Parity k rs ids)) in
       let s2 = told s1 (Step (ClauseOfParity n zs k)) in
-      let ok1 : IsSearch formula parities s1 = sum_keeps formula parities s ok k rs ids r.row_step r.row in
+      let ok1 : IsSearchIn tidies formula parities s1 = sum_keeps formula parities s ok k rs ids r.row_step r.row in
       let found : get s1.moment.tables.parities k ≡ Some (literals rs) =
       Looks-insert s.moment.tables.parities (get s.moment.tables.parities) k (literals rs) (λ _. refl) k ∙ ap (λ b. cond b (Some (literals rs)) (get s.moment.tables.parities k)) (same_id k) in
-      let ok2 : IsSearch formula parities s2 =
+      let ok2 : IsSearchIn tidies formula parities s2 =
       row_clause_keeps formula parities s1 ok1 n zs k (literals rs) r.clause_step found
       (row_is_of_parities formula.variables parities s.moment.tables ids (literals rs) (literals zs) r.row r.clause) r.clause r.goes_on in
       delete_sum_keeps formula parities s2 ok2 k [] r.high

@@ -81,8 +81,11 @@ no_deletion n k (constraint.Parity lits ∷ cs) [] i zs later is = cc
 no_deletion n k (constraint.Parity lits ∷ cs) (f ∷ front) i zs later is = let rest : original_events n (k + 1) cs ≡ front ++ Step (Delete i zs) ∷ later = cc in no_deletion n (k + 1) cs front i zs later rest
 no_deletion n k (constraint.Assume lits ∷ cs) front i zs later is = no_deletion n k cs front i zs later is
 
+pub originals_are_scheduled_in : (tidies : Bool) (cs : List Constraint) (events : List LogEvent) → events ≡ original_events 1 1 cs → IsScheduledIn tidies events
+originals_are_scheduled_in tidies cs events are front n zs later split among = absurd (no_deletion 1 1 cs front n zs later (sym are ∙ split))
+
 pub originals_are_scheduled : (cs : List Constraint) (events : List LogEvent) → events ≡ original_events 1 1 cs → IsScheduled events
-originals_are_scheduled cs events are front n zs later split among = absurd (no_deletion 1 1 cs front n zs later (sym are ∙ split))
+originals_are_scheduled = originals_are_scheduled_in false
 
 -- ---- a reduction
 pub reduction_may_begin : (events : List LogEvent) → MayReduce events → IsInReduction events

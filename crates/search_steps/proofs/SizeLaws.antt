@@ -1,5 +1,5 @@
 -- How many additions the steps of a search tell.
-use Rattle.std.proofs.Common.{◌≡◌, refl, ap, ◌∙◌, ℕ, suc, ◌+◌, ◌*◌, ℤ, List, [], ◌∷◌, ◌++◌, filter, length, arith, length-append}
+use Rattle.std.proofs.Common.{◌≡◌, refl, ap, ◌∙◌, ℕ, suc, ◌+◌, ◌*◌, ◌≤◌, ℤ, Bool, true, false, cond, List, [], ◌∷◌, ◌++◌, filter, map, length, arith, length-append}
 use Rattle.std.proofs.lemmas.List.Elements.{filter-append}
 use Rattle.std.proofs.Math.Nat.{mul-suc}
 use Rattle.cx_base.specs.Literals.{Literal}
@@ -8,11 +8,13 @@ use Rattle.cx_base.specs.declared.constraint.Constraint.{Constraint}
 use Rattle.cx_base.specs.declared.constraint.Constraint.TheVariants as constraint
 use Rattle.cx_base.specs.declared.steps.LogEvent.{LogEvent}
 use Rattle.cx_base.specs.declared.steps.LogEvent.TheVariants.{Step, Conflict}
+use Rattle.cx_base.specs.declared.steps.LogStep.{LogStep}
 use Rattle.cx_base.specs.declared.steps.LogStep.TheVariants.{ClauseWithHints, Delete}
 use Rattle.cx_semantics.specs.Marked.{original_events}
 use Rattle.search_steps.specs.Search.{Search, told}
 use Rattle.search_steps.specs.LogSteps.{all_told, deleted, after_learned, after_round}
-use Rattle.search_steps.specs.Size.{additions, is_addition}
+use Rattle.search_steps.specs.Size.{additions, adds, is_addition}
+use Rattle.search_steps.specs.TidySteps.{steps_told}
 use Rattle.search_steps.proofs.Rounds.{deleted_conflicts}
 
 pub additions_join : (xs ys : List LogEvent) → additions (xs ++ ys) ≡ additions xs + additions ys
@@ -34,6 +36,18 @@ deletions_add_none s (n ∷ ids) =
     let rest = deletions_add_none (told s (Step (Delete n []))) ids in
     let first = additions_join s.events (Step (Delete n []) ∷ []) in
     omega (arith, rest, first)
+
+-- steps add one each at most
+few_told : (steps : List LogStep) → additions (map Step steps) ≤ length steps
+few_told [] = omega arith
+few_told (step ∷ steps) = go (adds step) (few_told steps)
+  where
+    go : (b : Bool) → additions (map Step steps) ≤ length steps → length (cond b (Step step ∷ filter is_addition (map Step steps)) (filter is_addition (map Step steps))) ≤ length (step ∷ steps)
+    go true rest = omega (arith, rest)
+    go false rest = omega (arith, rest)
+
+pub steps_add_few : (s : Search) (steps : List LogStep) → additions (steps_told s steps).events ≤ additions s.events + length steps
+steps_add_few s steps = let told = told_adds s (map Step steps) in let few = few_told steps in omega (arith, told, few)
 
 -- a counted conflict adds its learned clause
 pub round_adds_one : (s : Search) (n : ℕ) (zs hints : List ℤ) (back : ℕ) (l : Literal) → additions (after_round s n zs hints back l).events ≡ additions s.events + 1

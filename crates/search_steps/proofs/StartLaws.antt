@@ -22,9 +22,9 @@ use Rattle.cx_semantics.proofs.JudgingLaws.{runs_push}
 use Rattle.cx_semantics.proofs.Lookups.{Looks-insert, Looks-empty}
 use Rattle.cx_semantics.proofs.MarkedLaws.{events_go_on}
 use Rattle.search_steps.proofs.HintLaws.{originals_are_hinted}
-use Rattle.search_steps.proofs.ScheduleLaws.{originals_are_scheduled}
+use Rattle.search_steps.proofs.ScheduleLaws.{originals_are_scheduled_in}
 use Rattle.search_steps.specs.Covers.{ArePlain, rows_in}
-use Rattle.search_steps.specs.Search.{Search, IsSearch, told}
+use Rattle.search_steps.specs.Search.{Search, IsSearchIn, told}
 use Rattle.search_steps.specs.Start.{start, HasFirst, IsBegun}
 use Rattle.conflict_learn.proofs.ChainOfResolutions.{by_cases}
 use Rattle.search_steps.proofs.LogLaws.{step_goes_on}
@@ -257,9 +257,9 @@ nothing_is_begun formula = record {
 }
 
 -- after the last constraint the search holds
-pub begun_is_search : (formula : Problem) (s : Search) → clashes formula.constraints ≡ false → IsBegun formula formula.constraints s → IsSearch formula (parities_of formula.constraints) s
-begun_is_search formula s apart b = record {
-  log = record { apart = apart; runs = b.runs; fits = b.fits; marks = b.marks ∙ ap (Rattle.std.specs.List.range_with_len 1) (sym b.no_conflict); originals = ([], b.originals ∙ sym (append-nil (original_events 1 1 formula.constraints))); scheduled = originals_are_scheduled formula.constraints s.events b.originals; hinted = originals_are_hinted formula.constraints s.events b.originals };
+pub begun_is_search : {tidies : Bool} (formula : Problem) (s : Search) → clashes formula.constraints ≡ false → IsBegun formula formula.constraints s → IsSearchIn tidies formula (parities_of formula.constraints) s
+begun_is_search {tidies} formula s apart b = record {
+  log = record { apart = apart; runs = b.runs; fits = b.fits; marks = b.marks ∙ ap (Rattle.std.specs.List.range_with_len 1) (sym b.no_conflict); originals = ([], b.originals ∙ sym (append-nil (original_events 1 1 formula.constraints))); scheduled = originals_are_scheduled_in tidies formula.constraints s.events b.originals; hinted = originals_are_hinted formula.constraints s.events b.originals };
   serves = record {
     stands = subst (Rattle.search_steps.specs.Trail.IsTrail s.moment.tables.clauses (Rattle.search_steps.specs.Quiet.IsOfParities formula.variables (parities_of formula.constraints))) (sym b.no_trail) tt;
     quiet = λ k h. let none = b.no_level in absurd (omega (arith, h, none));
@@ -275,9 +275,9 @@ begun_is_search formula s apart b = record {
     no_rows = ap (λ ids. ids ++ s.moment.old_clauses) b.tidy.no_new_clauses ∙ b.tidy.no_old_clauses
 
 -- ---- a recovered parity joins the engine's, before the first decision
-pub recovered_joins : (formula : Problem) (parities : List (List Literal)) (s : Search) → IsSearch formula parities s → s.trail ≡ [] → s.quiet_levels ≡ 0 → (n : ℕ) (zs : List ℤ) (ids : List ℕ) → n ≤ length parities + 1
+pub recovered_joins : {tidies : Bool} (formula : Problem) (parities : List (List Literal)) (s : Search) → IsSearchIn tidies formula parities s → s.trail ≡ [] → s.quiet_levels ≡ 0 → (n : ℕ) (zs : List ℤ) (ids : List ℕ) → n ≤ length parities + 1
     → get s.moment.tables.parities n ≡ None → Rattle.cx_semantics.specs.Judging.IsRight (log_calculus formula) s.moment.tables (ParityOfClauses n zs ids)
-    → IsSearch formula (parities ++ literals zs ∷ []) (told s (Step (ParityOfClauses n zs ids)))
+    → IsSearchIn tidies formula (parities ++ literals zs ∷ []) (told s (Step (ParityOfClauses n zs ids)))
 recovered_joins formula parities s ok no_trail no_level n zs ids low free is_right = record {
   log = step_goes_on formula s.events s.moment s.conflicts ok.log (ParityOfClauses n zs ids) is_right refl tt (λ k ys is among. cc) tt;
   serves = record {

@@ -18,7 +18,7 @@ use Rattle.cx_semantics.specs.Chain.{is_inside, negations}
 use Rattle.cx_semantics.specs.Fresh.{is_tautology}
 use Rattle.cx_semantics.specs.Judging.{IsRight}
 use Rattle.cx_semantics.specs.LogRules.{log_calculus, derives_ending_clause}
-use Rattle.cx_semantics.specs.Marked.{Marked, Moment, IsLearned, IsKnown, IsAllowedDelete, clause_at, is_among, is_covered_without, without}
+use Rattle.cx_semantics.specs.Marked.{Marked, Moment, IsLearned, IsKnown, IsAllowedDelete, clause_at, is_among, is_covered_without, is_reduction, without}
 use Rattle.cx_semantics.specs.Tables.{Table, Tables, get}
 use Rattle.cx_semantics.proofs.Closure.{same_id}
 use Rattle.tidy_rules.specs.Runs.{IsTidyStep, RunsTidily, EndsTidily}
@@ -127,6 +127,13 @@ module _ (formula : Problem) (parities : List (List Literal)) (s : Search) (ok :
         let parts = and_parts (is_among s.moment.learned n) (not (is_covered_without s.moment.tables.clauses n (clause_at s.moment.tables.clauses n))) reduces in
         absurd (true≢false (sym parts.1 ∙ ap not (leaves_one parts.0)))
 
+    pub no_reduction : is_reduction s.moment n ≡ false
+    no_reduction = by_cases (is_reduction s.moment n)
+        (λ reduces.
+        let parts = and_parts (is_among s.moment.learned n) (not (is_covered_without s.moment.tables.clauses n (clause_at s.moment.tables.clauses n))) reduces in
+        absurd (true≢false (sym parts.1 ∙ ap not (leaves_one parts.0))))
+        (λ none. none)
+
     may_go : MayFollow true s.events (Step (Delete n zs))
     may_go k ys is among =
         let same : n ≡ k = cc in
@@ -144,7 +151,7 @@ module _ (formula : Problem) (parities : List (List Literal)) (s : Search) (ok :
         (drop_covered formula s.moment n spared)
         (drop_plain s.moment.tables.clauses n s.moment.learned ok.plain)
 
-  step_keeps : (step : LogStep) → IsRight (log_calculus formula) s.moment.tables step → derives_ending_clause formula step ≡ false → IsTidyStep s.moment.tables.clauses step
+  pub step_keeps : (step : LogStep) → IsRight (log_calculus formula) s.moment.tables step → derives_ending_clause formula step ≡ false → IsTidyStep s.moment.tables.clauses step
       → ((n : ℕ) (zs : List ℤ) → step ≡ Delete n zs → IsNoReason n s.trail) → IsSearchIn true formula parities (told s (Step step)) × IsAtStart (told s (Step step))
   step_keeps (ClauseWithHints n zs hints) is_right goes tidy spare = (
     clause_keeps n zs hints is_right goes tidy,

@@ -21,7 +21,7 @@ use Rattle.cx_semantics.proofs.Members.{has_split}
 use Rattle.cx_semantics.proofs.Soundness.{same_clause}
 use Rattle.cx_semantics.proofs.Widths.{len-normal_form}
 use Rattle.search_steps.specs.LogSteps.{IsAddition}
-use Rattle.search_steps.specs.Search.{Search, IsSearch, told}
+use Rattle.search_steps.specs.Search.{Search, IsSearchIn, told}
 use Rattle.search_steps.proofs.LogLaws.{clauses_parity_keeps}
 
 module _ (l : Literal) where
@@ -49,7 +49,7 @@ module _ (l : Literal) where
       go false e = e
 
 -- the parity of a live unit clause's literal
-module _ (formula : Problem) (parities : List (List Literal)) (s : Search) (ok : IsSearch formula parities s) (n : ℕ) (z : ℤ) (unit : ℕ) (clause : List Literal) (a : IsAddition formula s.moment.tables.parities n (z ∷ []))
+module _ {tidies : Bool} (formula : Problem) (parities : List (List Literal)) (s : Search) (ok : IsSearchIn tidies formula parities s) (n : ℕ) (z : ℤ) (unit : ℕ) (clause : List Literal) (a : IsAddition formula s.moment.tables.parities n (z ∷ []))
     (live : get s.moment.tables.clauses unit ≡ Some clause) (same : same_literals (literal z ∷ []) clause ≡ true) where
   inside : is_inside clause (literal z ∷ []) ≡ true
   inside = (and_parts (is_inside (literal z ∷ []) clause) (is_inside clause (literal z ∷ [])) same).1
@@ -68,5 +68,5 @@ module _ (formula : Problem) (parities : List (List Literal)) (s : Search) (ok :
       outside = ap (λ o. list_any (list_any (λ m. not (set.contains (normal_form (literal z ∷ [])).variables m.variable))) (cons_option o [])) live
           ∙ ap (λ b. b || false) (none_outside (literal z) clause inside)
 
-  pub unit_parity_keeps : IsSearch formula parities (told s (Step (ParityOfClauses n (z ∷ []) (unit ∷ []))))
+  pub unit_parity_keeps : IsSearchIn tidies formula parities (told s (Step (ParityOfClauses n (z ∷ []) (unit ∷ []))))
   unit_parity_keeps = clauses_parity_keeps formula parities s ok n (z ∷ []) (unit ∷ []) a.free unit_parity_is_right

@@ -14,7 +14,7 @@ use Rattle.cx_semantics.proofs.Lookups.{Looks-insert}
 use Rattle.cx_semantics.proofs.Members.{has_at_head, has_behind}
 use Rattle.search_steps.specs.Trail.{Entry, held, all_held, IsTrail, Forces}
 use Rattle.search_steps.specs.Quiet.{HasNoClash, Quiet, ClausesQuiet, IsOfParities, IsWatchedWell}
-use Rattle.search_steps.specs.Search.{Search, IsSearch, told}
+use Rattle.search_steps.specs.Search.{Search, IsSearchIn, told}
 use Rattle.search_steps.specs.Hints.{AreHintsFor}
 use Rattle.search_steps.specs.LogSteps.{IsAddition, RestOnClauses, unit_told}
 use Rattle.search_steps.proofs.Sets.{true_rests, two_open_rests, tautology_rests}
@@ -33,9 +33,9 @@ held_there k (x ∷ newer) older e h = go (nat_le x.level k) (held_there k newer
     go true r = has_behind x.literal (held k (newer ++ e ∷ older)) e.literal r
     go false r = r
 
-pub unit_rests_keeps : (formula : Problem) (parities : List (List Literal)) (s : Search) → IsSearch formula parities s → (n : ℕ) (z : ℤ) (hints : List ℤ) (newer older : List Entry) (e : Entry) → s.trail ≡ newer ++ e ∷ older → e.level ≡ 0 → literal z ≡ e.literal
+pub unit_rests_keeps : {tidies : Bool} (formula : Problem) (parities : List (List Literal)) (s : Search) → IsSearchIn tidies formula parities s → (n : ℕ) (z : ℤ) (hints : List ℤ) (newer older : List Entry) (e : Entry) → s.trail ≡ newer ++ e ∷ older → e.level ≡ 0 → literal z ≡ e.literal
     → IsAddition formula s.moment.tables.clauses n (z ∷ []) → AreHintsFor s.moment.tables.clauses (literal z ∷ []) hints → derives_ending_clause formula (ClauseWithHints n (z ∷ []) hints) ≡ false → s.moment.awaits ≡ false → RestOnClauses older → (clause : List Literal) → IsLive s.moment.tables.clauses clause → Forces clause (all_held older) e.literal
-    → IsSearch formula parities (unit_told s n z hints newer e older)
+    → IsSearchIn tidies formula parities (unit_told s n z hints newer e older)
 unit_rests_keeps formula parities s ok n z hints newer older e same low is a right goes served on_clauses clause live forces =
     let IsRow = IsOfParities formula.variables parities in
     let t : IsTrail s.moment.tables.clauses IsRow (newer ++ e ∷ older) = subst (IsTrail s.moment.tables.clauses IsRow) same ok.serves.stands in

@@ -38,24 +38,24 @@ use Rattle.search_steps.specs.Propagated.{IsPropagated}
 use Rattle.search_steps.specs.Quiet.{HasNoClash, RestsOn, IsOfParities, IsWatchedWell, ParitiesQuiet, ClausesQuiet, Quiet}
 use Rattle.search_steps.specs.Schedule.{IsInReduction}
 use Rattle.search_steps.specs.Recovering.{IsParityOf, HasRecovered, SettledWithRecovered}
-use Rattle.search_steps.specs.Search.{Search, IsSearch, IsSearchIn, IsServed, IsTidy, IsLearnedOf, told, decided_on, forced_on, jumped, marked}
+use Rattle.search_steps.specs.Search.{Search, IsSearchIn, IsServed, IsTidy, IsLearnedOf, told, decided_on, forced_on, jumped, marked}
 use Rattle.search_steps.specs.Start.{IsBegun, start}
 use Rattle.search_steps.specs.Tied.{IsTied, AreForcedBehind, IsLiveSet, IsLiveOr, Mirrors, ForcesOn, IsQuietOn, AreOthersFalseOn, IsFalsifiedOn}
 use Rattle.cx_base.specs.Lines.{Line}
-use Rattle.tidy_rules.specs.Runs.{KeepsFree, RunsTidily, EndsTidily}
+use Rattle.tidy_rules.specs.Runs.{KeepsFree, NoneDeletes, RunsTidily, EndsTidily}
 use Rattle.search_steps.specs.Covers.{IsCover, IsSpared, rows_in}
 use Rattle.search_steps.specs.TidySteps.{IsAtStart, SpareReasons, IsEndedTidily, steps_told}
 use Rattle.search_steps.specs.TidyLines.{TidiedInTime, LineFits, marks_in, tidy_lines_in}
 use Rattle.search_steps.specs.Size.{additions}
 use Rattle.search_steps.specs.Trail.{Entry, by_clause, by_row, rests_on, held, all_held, back_to, level_of, IsUnassigned, Forces}
 
--- a law of each search that holds
-abbrev pub OfSearch : (Problem → List (List Literal) → Search → Type 0) → Type 0
-OfSearch Law = (formula : Problem) (parities : List (List Literal)) (s : Search) → IsSearch formula parities s → Law formula parities s
+-- a law of each search that holds, one that tidies or one that does not
+abbrev pub OfSearch : (Bool → Problem → List (List Literal) → Search → Type 0) → Type 0
+OfSearch Law = (tidies : Bool) (formula : Problem) (parities : List (List Literal)) (s : Search) → IsSearchIn tidies formula parities s → Law tidies formula parities s
 
 -- a law of each search that holds, tied to the code's trail, and a literal that is open there and is put on it for a reason
-abbrev pub OfTrail : (Problem → List (List Literal) → Search → TrailState → Literal → Reason → Type 0) → Type 0
-OfTrail Law = OfSearch (λ formula parities s. (t : TrailState) → Mirrors s.trail t → (l : Literal) (reason : Reason) → IsOpenIn t.entries l.variable → Law formula parities s t l reason)
+abbrev pub OfTrail : (Bool → Problem → List (List Literal) → Search → TrailState → Literal → Reason → Type 0) → Type 0
+OfTrail Law = OfSearch (λ tidies formula parities s. (t : TrailState) → Mirrors s.trail t → (l : Literal) (reason : Reason) → IsOpenIn t.entries l.variable → Law tidies formula parities s t l reason)
 
 -- a law of each search whose ids keep to their ranges
 abbrev pub OfRanges : (Problem → ℕ → ℕ → ℕ → Search → Type 0) → Type 0
@@ -88,43 +88,43 @@ AssumptionsAreNotTold = (formula : Problem) (taken : List Constraint) (s : Searc
 
 -- after the last constraint the search holds, with the parities of the formula, where its assumptions don't clash
 abbrev pub BegunIsSearch : Type 0
-BegunIsSearch = (formula : Problem) (s : Search) → IsFalse (clashes formula.constraints) → IsBegun formula formula.constraints s → IsSearch formula (parities_of formula.constraints) s
+BegunIsSearch = (tidies : Bool) (formula : Problem) (s : Search) → IsFalse (clashes formula.constraints) → IsBegun formula formula.constraints s → IsSearchIn tidies formula (parities_of formula.constraints) s
 
 -- a recovered parity joins the engine's, before the first decision
 abbrev pub RecoveredParitiesJoin : Type 0
-RecoveredParitiesJoin = OfSearch (λ formula parities s.
+RecoveredParitiesJoin = OfSearch (λ tidies formula parities s.
     s.trail ≡ [] → s.quiet_levels ≡ 0 → (n : ℕ) (zs : List ℤ) (ids : List ℕ) → n ≤ length parities + 1 → get s.moment.tables.parities n ≡ None
-    → IsRight (log_calculus formula) s.moment.tables (ParityOfClauses n zs ids) → IsSearch formula (parities ++ literals zs ∷ []) (told s (Step (ParityOfClauses n zs ids))))
+    → IsRight (log_calculus formula) s.moment.tables (ParityOfClauses n zs ids) → IsSearchIn tidies formula (parities ++ literals zs ∷ []) (told s (Step (ParityOfClauses n zs ids))))
 
 -- ---- the steps of the trail, over the code's
 -- a literal that a live clause forces keeps the search, and the code's trail with that literal put on it is tied to the longer one
 abbrev pub ClauseStepsKeep : Type 0
-ClauseStepsKeep = OfTrail (λ formula parities s t l reason.
+ClauseStepsKeep = OfTrail (λ tidies formula parities s t l reason.
     (n : ℕ) (clause : List Literal) → s.quiet_levels ≤ t.level → get s.moment.tables.clauses n ≡ Some clause → ForcesOn t.entries clause l
-    → IsSearch formula parities (forced_on s l (by_clause n)) × IsTied (forced_on s l (by_clause n)).trail (pushed t t.level l reason).entries)
+    → IsSearchIn tidies formula parities (forced_on s l (by_clause n)) × IsTied (forced_on s l (by_clause n)).trail (pushed t t.level l reason).entries)
 
 -- a whole propagation keeps the search: entries that live clauses force one after another
 abbrev pub PropagationsKeep : Type 0
-PropagationsKeep = OfSearch (λ formula parities s.
+PropagationsKeep = OfSearch (λ tidies formula parities s.
     (t : TrailState) → Mirrors s.trail t → s.quiet_levels ≤ t.level → (bound : ℕ) (more : List TrailEntry) → AreForcedBehind s.moment.tables.clauses bound t.level t.entries more
-    → IsPropagated formula parities bound s (t.entries ++ more))
+    → IsPropagated tidies formula parities bound s (t.entries ++ more))
 
 -- a literal that a clause of the parities forces keeps the search
 abbrev pub RowStepsKeep : Type 0
-RowStepsKeep = OfTrail (λ formula parities s t l reason.
+RowStepsKeep = OfTrail (λ tidies formula parities s t l reason.
     (clause : List Literal) → s.quiet_levels ≤ t.level → IsOfParities formula.variables parities clause → ForcesOn t.entries clause l
-    → IsSearch formula parities (forced_on s l (by_row clause)) × IsTied (forced_on s l (by_row clause)).trail (pushed t t.level l reason).entries)
+    → IsSearchIn tidies formula parities (forced_on s l (by_row clause)) × IsTied (forced_on s l (by_row clause)).trail (pushed t t.level l reason).entries)
 
 -- a decision keeps the search, where both engines are quiet
 abbrev pub DecisionsKeep : Type 0
-DecisionsKeep = OfTrail (λ formula parities s t l reason.
+DecisionsKeep = OfTrail (λ tidies formula parities s t l reason.
     s.quiet_levels ≡ t.level → Quiet formula.variables parities s.moment.tables.clauses (all_held s.trail)
-    → IsSearch formula parities (decided_on s l) × IsTied (decided_on s l).trail (pushed t (t.level + 1) l reason).entries)
+    → IsSearchIn tidies formula parities (decided_on s l) × IsTied (decided_on s l).trail (pushed t (t.level + 1) l reason).entries)
 
 -- a jump back keeps the search, to a level up to which all levels are quiet
 abbrev pub JumpsKeep : Type 0
-JumpsKeep = OfSearch (λ formula parities s.
-    (back : ℕ) → back ≤ s.quiet_levels → IsSearch formula parities (jumped s back))
+JumpsKeep = OfSearch (λ tidies formula parities s.
+    (back : ℕ) → back ≤ s.quiet_levels → IsSearchIn tidies formula parities (jumped s back))
 
 -- after a jump back the code's trail is that of the calculus
 abbrev pub JumpsStayTied : Type 0
@@ -134,73 +134,73 @@ JumpsStayTied = (k : ℕ) (es : List Entry) (old new : TrailState) → TakesBack
 -- the three steps of the reason that a row gave keep the search
 abbrev pub RowReasonsKeep : Type 0
 RowReasonsKeep =
-    (formula : Problem) (parities : List (List Literal)) (s : Search) (k : ℕ) (rs : List ℤ) (ids : List ℕ) (n : ℕ) (zs : List ℤ) → IsRowReason formula parities s k rs ids n zs
-    → IsSearch formula parities s → IsSearch formula parities (all_told s (row_events k rs ids n zs))
+    (tidies : Bool) (formula : Problem) (parities : List (List Literal)) (s : Search) (k : ℕ) (rs : List ℤ) (ids : List ℕ) (n : ℕ) (zs : List ℤ) → IsRowReason formula parities s k rs ids n zs
+    → IsSearchIn tidies formula parities s → IsSearchIn tidies formula parities (all_told s (row_events k rs ids n zs))
 
 -- telling the sum of live parities keeps the search
 abbrev pub SumsKeep : Type 0
-SumsKeep = OfSearch (λ formula parities s.
-    (n : ℕ) (zs : List ℤ) (ids : List ℕ) → IsAddition formula s.moment.tables.parities n zs → AreLive s.moment.tables.parities ids → IsSum (literals zs) (named s.moment.tables.parities ids) → IsSearch formula parities (told s (Step (Parity n zs ids))))
+SumsKeep = OfSearch (λ tidies formula parities s.
+    (n : ℕ) (zs : List ℤ) (ids : List ℕ) → IsAddition formula s.moment.tables.parities n zs → AreLive s.moment.tables.parities ids → IsSum (literals zs) (named s.moment.tables.parities ids) → IsSearchIn tidies formula parities (told s (Step (Parity n zs ids))))
 
 -- telling the parity of a live unit clause keeps the search
 abbrev pub UnitParitiesKeep : Type 0
-UnitParitiesKeep = OfSearch (λ formula parities s.
+UnitParitiesKeep = OfSearch (λ tidies formula parities s.
     (n : ℕ) (z : ℤ) (unit : ℕ) (clause : List Literal) → IsAddition formula s.moment.tables.parities n (z ∷ []) → get s.moment.tables.clauses unit ≡ Some clause → IsTrue (same_literals (literal z ∷ []) clause)
-    → IsSearch formula parities (told s (Step (ParityOfClauses n (z ∷ []) (unit ∷ [])))))
+    → IsSearchIn tidies formula parities (told s (Step (ParityOfClauses n (z ∷ []) (unit ∷ [])))))
 
 -- telling the clause of a row keeps the search, where the row's sum is live
 abbrev pub RowClausesKeep : Type 0
-RowClausesKeep = OfSearch (λ formula parities s.
+RowClausesKeep = OfSearch (λ tidies formula parities s.
     (n : ℕ) (zs : List ℤ) (source : ℕ) (row : List Literal) → IsAddition formula s.moment.tables.clauses n zs → get s.moment.tables.parities source ≡ Some row → IsOfParities formula.variables parities (literals zs)
-    → IsClauseOfRow formula.variables row (literals zs) → IsFalse (derives_ending_clause formula (ClauseOfParity n zs source)) → IsSearch formula parities (told s (Step (ClauseOfParity n zs source))))
+    → IsClauseOfRow formula.variables row (literals zs) → IsFalse (derives_ending_clause formula (ClauseOfParity n zs source)) → IsSearchIn tidies formula parities (told s (Step (ClauseOfParity n zs source))))
 
 -- deleting a sum keeps the search, where its id is above the engine's parities
 abbrev pub SumDeletionsKeep : Type 0
-SumDeletionsKeep = OfSearch (λ formula parities s.
-    (n : ℕ) (zs : List ℤ) → length parities < n → IsSearch formula parities (told s (Step (DeleteParity n zs))))
+SumDeletionsKeep = OfSearch (λ tidies formula parities s.
+    (n : ℕ) (zs : List ℤ) → length parities < n → IsSearchIn tidies formula parities (told s (Step (DeleteParity n zs))))
 
 -- telling the unit clause of a literal of level 0 with right hints keeps the search, and the literal rests on it from then on
 abbrev pub UnitsKeep : Type 0
-UnitsKeep = OfSearch (λ formula parities s.
+UnitsKeep = OfSearch (λ tidies formula parities s.
     (n : ℕ) (z : ℤ) (hints : List ℤ) (newer older : List Entry) (e : Entry) → s.trail ≡ newer ++ e ∷ older → e.level ≡ 0 → literal z ≡ e.literal → IsAddition formula s.moment.tables.clauses n (z ∷ [])
     → AreHintsFor s.moment.tables.clauses (literal z ∷ []) hints → IsFalse (derives_ending_clause formula (ClauseWithHints n (z ∷ []) hints)) → IsFalse s.moment.awaits → RestOnClauses older → (clause : List Literal) → IsLive s.moment.tables.clauses clause → Forces clause (all_held older) e.literal
-    → IsSearch formula parities (unit_told s n z hints newer e older))
+    → IsSearchIn tidies formula parities (unit_told s n z hints newer e older))
 
 -- and at level 0 that of a literal whose negation is in a clause that is not told, with right hints, where a chain by that clause and live ones is right
 abbrev pub UnitsBesideKeep : Type 0
-UnitsBesideKeep = OfSearch (λ formula parities s.
+UnitsBesideKeep = OfSearch (λ tidies formula parities s.
     s.quiet_levels ≡ 0 → (n : ℕ) (z : ℤ) (hints : List ℤ) → IsAddition formula s.moment.tables.clauses n (z ∷ []) → AreHintsFor s.moment.tables.clauses (literal z ∷ []) hints → IsFalse (derives_ending_clause formula (ClauseWithHints n (z ∷ []) hints)) → IsFalse s.moment.awaits
     → (clause : List Literal) (clauses : List (List Literal)) → AllByRecursion (IsLiveOr s.moment.tables.clauses clause) clauses → ((assumed : List Literal) → chain assumed clauses ≡ right) → IsTrue (has_literal clause (negate (literal z)))
-    → IsSearch formula parities (told s (Step (ClauseWithHints n (z ∷ []) hints))))
+    → IsSearchIn tidies formula parities (told s (Step (ClauseWithHints n (z ∷ []) hints))))
 
 -- the mark of a counted conflict keeps the search
 abbrev pub MarksKeep : Type 0
-MarksKeep = OfSearch (λ formula parities s.
-    IsServed s → IsSearch formula parities (marked s))
+MarksKeep = OfSearch (λ tidies formula parities s.
+    IsServed s → IsSearchIn tidies formula parities (marked s))
 
 -- telling the learned clause with right hints keeps the search, where one is owed
 abbrev pub LearnedClausesKeep : Type 0
-LearnedClausesKeep = OfSearch (λ formula parities s.
+LearnedClausesKeep = OfSearch (λ tidies formula parities s.
     (n : ℕ) (zs hints : List ℤ) (back : ℕ) (l : Literal) → IsAddition formula s.moment.tables.clauses n zs → IsFalse (derives_ending_clause formula (ClauseWithHints n zs hints)) → IsTrue s.moment.awaits → s.quiet_levels ≡ level_of s.trail
-    → AreHintsFor s.moment.tables.clauses (literals zs) hints → IsLearnedOf s.trail back (literals zs) l → IsSearch formula parities (record (told s (Step (ClauseWithHints n zs hints))) { quiet_levels = back }))
+    → AreHintsFor s.moment.tables.clauses (literals zs) hints → IsLearnedOf s.trail back (literals zs) l → IsSearchIn tidies formula parities (record (told s (Step (ClauseWithHints n zs hints))) { quiet_levels = back }))
 
 -- deleting temporary clauses one after another keeps the search
 abbrev pub DeletionsKeep : Type 0
-DeletionsKeep = OfSearch (λ formula parities s.
-    (ids : List ℕ) → AreTemporary s ids → IsSearch formula parities (deleted s ids))
+DeletionsKeep = OfSearch (λ tidies formula parities s.
+    (ids : List ℕ) → AreTemporary s ids → IsSearchIn tidies formula parities (deleted s ids))
 
 -- deleting a learned clause that is no reason keeps the search, where the formula's clauses are covered without it and enough are left, in a reduction
 abbrev pub LearnedDeletionsKeep : Type 0
-LearnedDeletionsKeep = OfSearch (λ formula parities s.
+LearnedDeletionsKeep = OfSearch (λ tidies formula parities s.
     (n : ℕ) (zs : List ℤ) → IsSpared formula s.moment n → IsNoReason n s.trail → 1000 + 250 * s.moment.reductions ≤ length (without s.moment.learned n)
-    → IsInReduction s.events → IsSearch formula parities (told s (Step (Delete n zs))))
+    → IsInReduction s.events → IsSearchIn tidies formula parities (told s (Step (Delete n zs))))
 
 -- a whole conflict keeps the search: the mark, the learned clause with right hints, the deletions, the jump back, and the literal that the clause forces
 abbrev pub RoundsKeep : Type 0
 RoundsKeep =
     (formula : Problem) (bound next row_next : ℕ) (s : Search) → IsRanged formula bound next row_next s.trail s.moment → (n : ℕ) (zs hints : List ℤ) (back : ℕ) → next ≤ n → n < bound
-    → (parities : List (List Literal)) → IsSearch formula parities s → (l : Literal) → IsServed s → s.quiet_levels ≡ level_of s.trail → IsAddition formula s.moment.tables.clauses n zs
-    → IsFalse (derives_ending_clause formula (ClauseWithHints n zs hints)) → AreHintsFor s.moment.tables.clauses (literals zs) hints → IsLearnedOf s.trail back (literals zs) l → IsSearch formula parities (after_round s n zs hints back l)
+    → (tidies : Bool) (parities : List (List Literal)) → IsSearchIn tidies formula parities s → (l : Literal) → IsServed s → s.quiet_levels ≡ level_of s.trail → IsAddition formula s.moment.tables.clauses n zs
+    → IsFalse (derives_ending_clause formula (ClauseWithHints n zs hints)) → AreHintsFor s.moment.tables.clauses (literals zs) hints → IsLearnedOf s.trail back (literals zs) l → IsSearchIn tidies formula parities (after_round s n zs hints back l)
 
 -- the reason of a row leaves no sum, and a search that may be marked stays so
 abbrev pub RowReasonsServe : Type 0
@@ -210,19 +210,19 @@ RowReasonsServe =
 
 -- after a whole conflict the search is tidy
 abbrev pub RoundsAreTidy : Type 0
-RoundsAreTidy = OfSearch (λ formula parities s.
+RoundsAreTidy = OfSearch (λ tidies formula parities s.
     (n : ℕ) (zs hints : List ℤ) (back : ℕ) (l : Literal) → IsLearnedOf s.trail back (literals zs) l → IsServed s → s.moment.new_sums ≡ [] → IsTidy (after_round s n zs hints back l))
 
 -- the literal that the learned clause forces is open on the code's trail after the jump, and is added to it
 abbrev pub RoundsStayTied : Type 0
-RoundsStayTied = OfSearch (λ formula parities s.
+RoundsStayTied = OfSearch (λ tidies formula parities s.
     (n : ℕ) (zs hints : List ℤ) (back : ℕ) (l : Literal) → IsLearnedOf s.trail back (literals zs) l → (t u : TrailState) → IsTied s.trail t.entries → TakesBack back t u → (reason : Reason)
     → IsOpenIn u.entries l.variable × IsTied (after_round s n zs hints back l).trail (pushed u back l reason).entries)
 
 -- ---- conflicts and what they teach
 -- the clause that an analysis answers is learned, asserting by its first literal
 abbrev pub TaughtIsLearned : Type 0
-TaughtIsLearned = OfSearch (λ formula parities s.
+TaughtIsLearned = OfSearch (λ tidies formula parities s.
     (t : TrailState) → Mirrors s.trail t → 0 < t.level → (conflict : List Literal) (resolved : List Resolved) (lits : List Literal) (back lbd : ℕ) → Teaches t conflict (IsNamedBy s.moment.tables.clauses) resolved lits back lbd
     → (l : Literal) × (more : List Literal) × (lits ≡ l ∷ more) × IsLearnedOf s.trail back lits l)
 
@@ -245,13 +245,13 @@ ForcedIsImplied =
 
 -- above level 0 a clause with the literals of a live one has a literal that is false at the current level or not at all
 abbrev pub ClauseConflictsAreNow : Type 0
-ClauseConflictsAreNow = OfSearch (λ formula parities s.
+ClauseConflictsAreNow = OfSearch (λ tidies formula parities s.
     (t : TrailState) → Mirrors s.trail t → 0 < t.level → s.quiet_levels ≡ t.level → (lits : List Literal) → IsLiveSet s.moment.tables.clauses lits
     → (m : Literal) × IsTrue (has_literal lits m) × IsOfLevel t m t.level)
 
 -- above level 0 a clause that the parities imply has such a literal
 abbrev pub RowConflictsAreNow : Type 0
-RowConflictsAreNow = OfSearch (λ formula parities s.
+RowConflictsAreNow = OfSearch (λ tidies formula parities s.
     (t : TrailState) → Mirrors s.trail t → 0 < t.level → s.quiet_levels ≡ t.level → (clause : List Literal) → IsOfParities formula.variables parities clause
     → (m : Literal) × IsTrue (has_literal clause m) × IsOfLevel t m t.level)
 
@@ -267,36 +267,36 @@ EndedIsUnmet = (formula : Problem) (events : List LogEvent) → IsEnded formula 
 
 -- a right step that ends a log makes it one that is right to its end; the negations of its clause's literals are assumed, and no values meet the clauses and parities with them
 abbrev pub LastStepsEnd : Type 0
-LastStepsEnd = OfSearch (λ formula parities s.
+LastStepsEnd = OfSearch (λ tidies formula parities s.
     (step : LogStep) → IsRight (log_calculus formula) s.moment.tables step → IsTrue (derives_ending_clause formula step) → IsEnded formula (s.events ++ Step step ∷ []) × IsFailed formula (negations (derived_clause step)))
 
 -- a clause with right hints ends a log in this way, and the marks are as before where no clause is owed
 abbrev pub ChainedClausesEnd : Type 0
-ChainedClausesEnd = OfSearch (λ formula parities s.
+ChainedClausesEnd = OfSearch (λ tidies formula parities s.
     (n : ℕ) (zs hints : List ℤ) → IsAddition formula s.moment.tables.clauses n zs → AreHintsFor s.moment.tables.clauses (literals zs) hints → IsTrue (derives_ending_clause formula (ClauseWithHints n zs hints)) → IsFalse s.moment.awaits
     → IsEnded formula (s.events ++ Step (ClauseWithHints n zs hints) ∷ []) × Marked formula (s.events ++ Step (ClauseWithHints n zs hints) ∷ []) s.conflicts)
 
 -- the clause of a row ends a log in this way, where its sum is live
 abbrev pub RowClausesEnd : Type 0
-RowClausesEnd = OfSearch (λ formula parities s.
+RowClausesEnd = OfSearch (λ tidies formula parities s.
     (n : ℕ) (zs : List ℤ) (source : ℕ) (row : List Literal) → IsAddition formula s.moment.tables.clauses n zs → get s.moment.tables.parities source ≡ Some row → IsClauseOfRow formula.variables row (literals zs)
     → IsTrue (derives_ending_clause formula (ClauseOfParity n zs source)) → IsFalse s.moment.awaits
     → IsEnded formula (s.events ++ Step (ClauseOfParity n zs source) ∷ []) × Marked formula (s.events ++ Step (ClauseOfParity n zs source) ∷ []) s.conflicts)
 
 -- a live clause that is false by older entries, which all rest on live clauses, gives the empty clause a right chain
 abbrev pub FalsifiedHasChain : Type 0
-FalsifiedHasChain = OfSearch (λ formula parities s.
+FalsifiedHasChain = OfSearch (λ tidies formula parities s.
     (newer older : List Entry) → s.trail ≡ newer ++ older → RestOnClauses older → (clause : List Literal) → IsLive s.moment.tables.clauses clause
     → IsTrue (is_inside (negations clause) (all_held older)) → HasChain s.moment.tables.clauses [])
 
 -- while no clause is owed the log is open, and marked once for each conflict
 abbrev pub SearchesAreOpen : Type 0
-SearchesAreOpen = OfSearch (λ formula parities s.
+SearchesAreOpen = OfSearch (λ tidies formula parities s.
     IsFalse s.moment.awaits → IsOpen (log_calculus formula) (steps_of s.events) × Marked formula s.events s.conflicts)
 
 -- where both engines are quiet, all is decided and each assumed literal is held, the values of the trail meet the formula
 abbrev pub FullIsMet : Type 0
-FullIsMet = OfSearch (λ formula parities s.
+FullIsMet = OfSearch (λ tidies formula parities s.
     Quiet formula.variables parities s.moment.tables.clauses (all_held s.trail) → HaveTheirs formula parities → ((l : Literal) → IsTrue (assumes formula.constraints l) → IsTrue (has_literal (all_held s.trail) l)) → (values : List Bool) → AllByRecursion (λ c. AreWithin formula.variables (literals_of c)) formula.constraints
     → Decides formula.variables (all_held s.trail) → length values ≡ formula.variables → IsTrue (list_all (literal_true values) (all_held s.trail)) → Meets formula values)
 
@@ -306,7 +306,7 @@ TheirsAreHad = (formula : Problem) (more : List (List Literal)) → HasRecovered
 
 -- where both engines are quiet over a formula that is settled with the recovered parities, all is decided
 abbrev pub SettledWantsNoDecision : Type 0
-SettledWantsNoDecision = OfSearch (λ formula parities s.
+SettledWantsNoDecision = OfSearch (λ tidies formula parities s.
     Quiet formula.variables parities s.moment.tables.clauses (all_held s.trail) → HaveTheirs formula parities → SettledWithRecovered formula → Decides formula.variables (all_held s.trail))
 
 -- ---- quiet, from what the watches and the engine answer
@@ -317,7 +317,7 @@ WatchedIsQuiet =
 
 -- the trail has no literal together with its negation
 abbrev pub TrailsHaveNoClash : Type 0
-TrailsHaveNoClash = OfSearch (λ formula parities s.
+TrailsHaveNoClash = OfSearch (λ tidies formula parities s.
     HasNoClash (all_held s.trail))
 
 -- a clause rests where a stored list with the same literals has a true one or two open ones
@@ -368,7 +368,7 @@ AnswersHold = (s : State) (es : List Entry) → HoldsValues es s.values → (eve
 
 -- an engine that takes levels back holds the values of the trail that is left
 abbrev pub ValuesTakenBackHold : Type 0
-ValuesTakenBackHold = OfSearch (λ formula parities s.
+ValuesTakenBackHold = OfSearch (λ tidies formula parities s.
     (newer older : List Entry) → s.trail ≡ newer ++ older → (engine : State) → HoldsValues older engine.values → (k : ℕ) → HoldsValues (back_to k older) (back k engine).values)
 
 -- newer entries above a level do not count in a jump back to it
@@ -438,7 +438,7 @@ RowIdsAreTemporary = OfRanges (λ formula bound next row_next s. (ids : List ℕ
 
 -- without a clause from the bound on each clause of the formula is covered still
 abbrev pub HighIsSpared : Type 0
-HighIsSpared = OfRanges (λ formula bound next row_next s. (parities : List (List Literal)) → IsSearch formula parities s → (n : ℕ) → bound ≤ n → IsSpared formula s.moment n)
+HighIsSpared = OfRanges (λ formula bound next row_next s. (tidies : Bool) (parities : List (List Literal)) → IsSearchIn tidies formula parities s → (n : ℕ) → bound ≤ n → IsSpared formula s.moment n)
 
 -- a clause below the bound covers each that it lies inside
 abbrev pub LowIsCover : Type 0
@@ -475,6 +475,10 @@ StepsAddFew = (s : Search) →
     × ((ids : List ℕ) → additions (deleted s ids).events ≡ additions s.events)
     × ((n : ℕ) (zs hints : List ℤ) (back : ℕ) (l : Literal) → additions (after_round s n zs hints back l).events ≡ additions s.events + 1)
 
+-- any steps add at most one each
+abbrev pub ToldStepsAddFew : Type 0
+ToldStepsAddFew = (s : Search) (steps : List LogStep) → additions (steps_told s steps).events ≤ additions s.events + length steps
+
 -- ---- tidyings
 -- a law of each search that tidies and holds
 abbrev pub OfTidying : (Problem → List (List Literal) → Search → Type 0) → Type 0
@@ -491,6 +495,13 @@ abbrev pub TidyStepsEnd : Type 0
 TidyStepsEnd = OfTidying (λ formula parities s.
     IsAtStart s → (lits : List Literal) (steps : List LogStep) → EndsTidily formula s.moment.tables lits steps → SpareReasons s.trail steps
     → IsEndedTidily formula (s.events ++ map Step steps) s.conflicts lits)
+
+-- A learned clause that none of them deletes is learned still, and no reduction begins.
+abbrev pub TidyStepsKeepCounts : Type 0
+TidyStepsKeepCounts = OfTidying (λ formula parities s.
+    IsAtStart s → (steps : List LogStep) (last : Tables) → RunsTidily formula s.moment.tables steps last → SpareReasons s.trail steps
+    → ((n : ℕ) → NoneDeletes n steps → IsTrue (is_among s.moment.learned n) → IsTrue (is_among (steps_told s steps).moment.learned n))
+    × ((steps_told s steps).moment.reductions ≡ s.moment.reductions) × ((steps_told s steps).moment.reduces ≡ s.moment.reduces))
 
 -- They keep the ranges of ids, where what was free is free in the end.
 abbrev pub TidyStepsKeepRanges : Type 0

@@ -1,5 +1,5 @@
 //! The laws of the search's steps. Each function's contract is the law, and its body is empty.
-ghost use Rattle.search_steps.specs.Laws.{AnswersHold, AssignedValuesHold, AssumptionsAreNotTold, BegunIsRanged, BegunIsSearch, BoundsRise, ChainedClausesEnd, ClauseConflictsAreNow, ClauseStepsKeep, DecisionsKeep, DeletionsKeep, EndedIsUnmet, FalsifiedHasChain, FinalIsHinted, ForcedIsImplied, FreshEnginesHold, FullIsMet, HighIsNoReason, HighIsNotAmong, HighIsSpared, ImpliedClausesRest, JumpsKeep, JumpsStayTied, KnownIsTrue, LargerClausesRest, LastStepsEnd, LaterEntriesGo, LearnedClausesKeep, LearnedDeletionsKeep, LearnedIsHinted, LowIsCover, MarksKeep, NewLevelsHold, NextIdsAreFree, NoValueIsOpen, NothingIsBegun, OpenHasNoValue, OriginalClausesAreTold, OriginalParitiesAreTold, OtherTrailsKeepRanges, PropagationsKeep, RecoveredParitiesJoin, RecoveredTakesOne, RoundsAreTidy, RoundsKeep, RoundsKeepRanges, RoundsStayTied, RowClausesEnd, RowClausesKeep, RowConflictsAreNow, RowIdsAreTemporary, RowReasonsKeep, RowReasonsServe, RowStepsKeep, RowsAreOfParities, SearchesAreOpen, SettledWantsNoDecision, SilentIsQuiet, StepsAddFew, StoredForces, StoredIsFalse, StoredRests, SumDeletionsKeep, SumsAreFreeAgain, SumsAreFreeAtFirst, SumsKeep, TaughtIsLearned, TheirsAreHad, TidyLinesComeLate, TidyLinesGoOn, TidyStepsEnd, TidyStepsKeep, TidyStepsKeepRanges, TidyStepsKeepSums, ToldStepsKeepRanges, TrailStepsKeepRanges, TrailsHaveNoClash, UnitParitiesKeep, UnitsBesideKeep, UnitsKeep, ValuesTakenBackHold, WatchedIsQuiet};
+ghost use Rattle.search_steps.specs.Laws.{AnswersHold, AssignedValuesHold, AssumptionsAreNotTold, BegunIsRanged, BegunIsSearch, BoundsRise, ChainedClausesEnd, ClauseConflictsAreNow, ClauseStepsKeep, DecisionsKeep, DeletionsKeep, EndedIsUnmet, FalsifiedHasChain, FinalIsHinted, ForcedIsImplied, FreshEnginesHold, FullIsMet, HighIsNoReason, HighIsNotAmong, HighIsSpared, ImpliedClausesRest, JumpsKeep, JumpsStayTied, KnownIsTrue, LargerClausesRest, LastStepsEnd, LaterEntriesGo, LearnedClausesKeep, LearnedDeletionsKeep, LearnedIsHinted, LowIsCover, MarksKeep, NewLevelsHold, NextIdsAreFree, NoValueIsOpen, NothingIsBegun, OpenHasNoValue, OriginalClausesAreTold, OriginalParitiesAreTold, OtherTrailsKeepRanges, PropagationsKeep, RecoveredParitiesJoin, RecoveredTakesOne, RoundsAreTidy, RoundsKeep, RoundsKeepRanges, RoundsStayTied, RowClausesEnd, RowClausesKeep, RowConflictsAreNow, RowIdsAreTemporary, RowReasonsKeep, RowReasonsServe, RowStepsKeep, RowsAreOfParities, SearchesAreOpen, SettledWantsNoDecision, SilentIsQuiet, StepsAddFew, StoredForces, StoredIsFalse, StoredRests, SumDeletionsKeep, SumsAreFreeAgain, SumsAreFreeAtFirst, SumsKeep, TaughtIsLearned, TheirsAreHad, TidyLinesComeLate, TidyLinesGoOn, TidyStepsEnd, TidyStepsKeep, TidyStepsKeepCounts, TidyStepsKeepRanges, TidyStepsKeepSums, ToldStepsAddFew, ToldStepsKeepRanges, TrailStepsKeepRanges, TrailsHaveNoClash, UnitParitiesKeep, UnitsBesideKeep, UnitsKeep, ValuesTakenBackHold, WatchedIsQuiet};
 
 /// At the start nothing is told.
 pub fn nothing_is_begun()
@@ -381,6 +381,11 @@ pub fn steps_add_few()
     ensures { StepsAddFew }
 {}
 
+/// Any steps add at most one each to its log.
+pub fn told_steps_add_few()
+    ensures { ToldStepsAddFew }
+{}
+
 /// At a restart the steps of a tidying keep the search, where they delete no reason.
 pub fn tidy_steps_keep()
     ensures { TidyStepsKeep }
@@ -389,6 +394,11 @@ pub fn tidy_steps_keep()
 /// Where the last of them ends the log, it is right to its end, marked as before, on schedule and hinted, and the negations of the last clause's literals are assumed.
 pub fn tidy_steps_end()
     ensures { TidyStepsEnd }
+{}
+
+/// A learned clause that none of them deletes is learned still, and no reduction begins.
+pub fn tidy_steps_keep_counts()
+    ensures { TidyStepsKeepCounts }
 {}
 
 /// They keep the ranges of ids, where what was free is free in the end.

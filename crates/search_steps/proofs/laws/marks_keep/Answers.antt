@@ -2,4 +2,4 @@ use Rattle.search_steps.proofs.LogLaws.{mark_keeps}
 use Rattle.search_steps.proofs.laws.marks_keep.Goals as goal
 
 pub returns : goal.returns
-returns c = mark_keeps
+returns c = λ tidies. mark_keeps {tidies = tidies}

@@ -2,4 +2,4 @@ use Rattle.search_steps.proofs.LogLaws.{row_clause_keeps}
 use Rattle.search_steps.proofs.laws.row_clauses_keep.Goals as goal
 
 pub returns : goal.returns
-returns c = row_clause_keeps
+returns c = λ tidies. row_clause_keeps {tidies = tidies}
