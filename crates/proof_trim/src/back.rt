@@ -1,8 +1,7 @@
 //! Back through a proof: which of its steps are needed, and what they name of the formula.
-ghost use Rattle.std.specs.Prelude.{◌≡◌, ◌<◌, ◌||◌, length, IfOk};
-ghost use Rattle.proof_trim.specs.Marking.{wanted_before, puts_wanted, wants, marks_of};
-ghost use Rattle.proof_trim.specs.NameSets.{Has, has_name};
-ghost use Rattle.proof_trim.specs.Puts.{step_at};
+ghost use Rattle.std.specs.Prelude.{◌≡◌, IfOk};
+ghost use Rattle.proof_trim.specs.Marking.{wants, marks_of};
+ghost use Rattle.proof_trim.specs.NameSets.{Has};
 
 use crate::names::NameSet;
 use crate::store::StepStore;
@@ -16,20 +15,6 @@ pub(crate) struct FoundNeeded {
     pub(crate) marks: Vec<bool>,
     /// What needed steps name of the formula.
     pub(crate) wanted: NameSet,
-}
-
-/// Goes back over the step at a place: whether it is needed.
-fn back_over(
-    wanted: &mut NameSet,
-    proof: &StepStore,
-    place: usize,
-    is_last: bool,
-) -> Result<bool, AllocError>
-    requires { place < length proof.now }
-    ensures needed { IfOk result (λ needed. needed ≡ (is_last || puts_wanted (has_name wanted.old) (step_at proof.now place))) }
-    ensures wanted { IfOk result (λ needed. Has wanted.new (wanted_before needed (step_at proof.now place) (has_name wanted.old))) }
-{
-    proof.back_over(place, is_last, wanted)
 }
 
 /// Goes back through a proof of the formula, whose last step is needed: which other steps are, and what they name of the
@@ -48,7 +33,7 @@ pub(crate) fn go_back(
     let mut left = proof.len();
     while 0 < left {
         left -= 1;
-        marks[left] = back_over(&mut wanted, proof, left, left + 1 == proof.len())?;
+        marks[left] = proof.back_over(left, left + 1 == proof.len(), &mut wanted)?;
     }
     Ok(FoundNeeded { marks, wanted })
 }
