@@ -9,6 +9,7 @@ pub mod RemoveLaws
 pub mod PassLaws
 pub mod Recorded
 pub mod PartLaws
+pub mod HeadLaws
 pub mod StoreLaws
 pub mod KeptLaws
 pub mod BackLaws

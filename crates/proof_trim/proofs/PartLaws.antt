@@ -75,16 +75,6 @@ copied_id_more packed into new s place n low high room before is step =
     (λ i. take (count i) (step i)) ∙ take_more_set into (place - s) n room ∙ (λ i. before i ++ is i ∷ [])
     ∙ sym (map_push unsigned (part packed s place) (get_or packed place (pos 0))) ∙ ap (map unsigned) (sym (part_ends packed s place (pos 0) low high))
 
--- ---- three integers and two lists put after others
-
-pub listed_after : (old : List ℤ) (a b c : ℤ) (xs ys : List ℤ) → ((((old ++ a ∷ []) ++ b ∷ []) ++ c ∷ []) ++ xs) ++ ys ≡ old ++ (a ∷ b ∷ c ∷ (xs ++ ys))
-listed_after [] a b c xs ys = refl
-listed_after (z ∷ old) a b c xs ys = ap (λ zs. z ∷ zs) (listed_after old a b c xs ys)
-
-pub ids_after : (old : List ℤ) (a b c : ℤ) (ys : List ℤ) → (((old ++ a ∷ []) ++ b ∷ []) ++ c ∷ []) ++ ys ≡ old ++ (a ∷ b ∷ c ∷ ys)
-ids_after [] a b c ys = refl
-ids_after (z ∷ old) a b c ys = ap (λ zs. z ∷ zs) (ids_after old a b c ys)
-
 -- ---- nothing copied yet
 
 no_part : {A : Type 0} (xs : List A) (s : ℕ) → part xs s s ≡ []

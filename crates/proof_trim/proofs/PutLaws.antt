@@ -1,23 +1,24 @@
 -- What steps put, and what their hints name.
 use Rattle.std.proofs.Common.{◌≡◌, refl, sym, ap, ◌∙◌, ℕ, ℤ, pos, ◌+◌, ◌-◌, ◌<◌, ◌≤◌, nat_abs, Bool, true, false, cond, not, ◌&&◌, ◌||◌, List, [], ◌∷◌, ◌++◌, length, take, drop, map, get_or, Option, Some, None, is_some, true≢false, Result, Ok, Err, IfOk, OnOk, arith}
-use Rattle.std.proofs.lemmas.List.{drop_at, drop-take, drop-drop, get_or-drop}
+use Rattle.std.proofs.lemmas.List.{drop-take, drop-drop, get_or-drop}
 use Rattle.cx_base.specs.declared.steps.ProofStep.{ProofStep}
 use Rattle.cx_base.specs.declared.steps.ProofStep.TheVariants as step
 use Rattle.proof_rules.specs.declared.live.Kind.{Kind}
 use Rattle.proof_rules.specs.declared.live.Kind.TheVariants.{Clauses, Parities}
 use Rattle.proof_trim.specs.declared.names.NameSet.{NameSet}
-use Rattle.proof_trim.specs.declared.opened.StepKind.{StepKind}
-use Rattle.proof_trim.specs.declared.opened.StepKind.TheVariants as kind
+use Rattle.proof_trim.specs.declared.head.StepKind.{StepKind}
+use Rattle.proof_trim.specs.declared.head.StepKind.TheVariants as kind
 use Rattle.proof_trim.specs.declared.put.Put.{Put}
+use Rattle.proof_trim.specs.Heads.{kind_in, literals_in}
 use Rattle.proof_trim.specs.Integers.{part, signed, unsigned}
 use Rattle.proof_trim.specs.Marking.{puts_wanted, wanted_before}
 use Rattle.proof_trim.specs.Names.{Name, clause, parity, same_name, puts, has_hint}
 use Rattle.proof_trim.specs.NameSets.{Has, KeepsOne, has_name, hinted, hinted_as, live_after, name_of, names_put, stays_with, wants_put, went_back}
 use Rattle.proof_trim.specs.Puts.{hint_kind, put_by, put_of, step_at}
-use Rattle.proof_trim.specs.Stored.{code_of, kind_of, listed, packed, step_by, unpacked, IsPacked, AreStored, steps_at, start_at}
+use Rattle.proof_trim.specs.Stored.{listed, packed, step_by, unpacked, IsPacked, AreStored, steps_at, start_at}
 use Rattle.proof_trim.proofs.NameLaws.{hinted_more, or_moved}
-use Rattle.proof_trim.proofs.PartLaws.{part_begins, length-part, unsigned-signed}
-use Rattle.proof_trim.proofs.StoreLaws.{kind_back, begins, has_room, stands_at, unpacked-packed, StandsAt}
+use Rattle.proof_trim.proofs.PartLaws.{part_begins, length-part}
+use Rattle.proof_trim.proofs.StoreLaws.{kind_packed, hints_packed, begins, has_room, stands_at, unpacked-packed, StandsAt}
 
 -- ---- a step by what it puts
 
@@ -133,13 +134,10 @@ put_by_parts kind.ParityOfClauses n xs ys ids = refl
 
 -- the hints among the integers of a step name it
 abbrev hinted_in : List ℤ → Name → Bool
-hinted_in zs name = hinted (hint_kind (kind_of (unsigned (get_or zs 0 (pos 0))))) (drop (unsigned (get_or zs 2 (pos 0))) (drop 3 zs)) name
+hinted_in zs name = let head = unsigned (get_or zs 0 (pos 0)) in hinted (hint_kind (kind_in head)) (drop (literals_in head) (drop 2 zs)) name
 
 hinted_listed : (k : StepKind) (n : ℕ) (xs ys : List ℤ) (name : Name) → hinted (hint_kind k) ys name ≡ hinted_in (listed k n xs ys) name
-hinted_listed k n xs ys name =
-    let is : kind_of (unsigned (signed (code_of k))) ≡ k = ap kind_of (unsigned-signed (code_of k)) ∙ kind_back k in
-    let back : drop (unsigned (signed (length xs))) (xs ++ ys) ≡ ys = ap (λ j. drop j (xs ++ ys)) (unsigned-signed (length xs)) ∙ drop_at xs ys (length xs) refl in
-    λ i. hinted (hint_kind (sym is i)) (sym back i) name
+hinted_listed k n xs ys name = λ i. hinted (hint_kind (sym (kind_packed k xs) i)) (sym (hints_packed k xs ys) i) name
 
 hinted_packed : (s : ProofStep) (name : Name) → has_hint s name ≡ hinted_in (packed s) name
 hinted_packed (step.Clause n lits hints) name = hinted_listed kind.Clause n lits hints name
@@ -154,37 +152,37 @@ module _ (zs ends : List ℤ) (most place start end : ℕ) (stored : AreStored z
   at : StandsAt zs (steps_at zs 0 ends) most place start end
   at = stands_at zs ends most place start end stored less s e
 
-  room : (start + 3 ≤ end) × (unsigned (get_or zs (start + 2) (pos 0)) ≤ end - (start + 3)) × (end - (start + 3) ≤ most)
+  room : (start + 2 ≤ end) × (literals_in (unsigned (get_or zs start (pos 0))) ≤ end - (start + 2)) × (end - (start + 2) ≤ most)
   room = has_room zs start end at.low at.high most at.is_packed
 
-  pub head_within : (start + 3 ≤ end) × (end ≤ length zs)
+  pub head_within : (start + 2 ≤ end) × (end ≤ length zs)
   head_within = (room.0, at.high)
 
-  pub hints_within : start + 3 + unsigned (get_or zs (start + 2) (pos 0)) ≤ end
+  pub hints_within : start + 2 + literals_in (unsigned (get_or zs start (pos 0))) ≤ end
   hints_within = omega (arith, room.0, room.1)
 
-  whole : part zs start end ≡ get_or zs start (pos 0) ∷ get_or zs (start + 1) (pos 0) ∷ get_or zs (start + 2) (pos 0) ∷ part zs (start + 3) end
+  whole : part zs start end ≡ get_or zs start (pos 0) ∷ get_or zs (start + 1) (pos 0) ∷ part zs (start + 2) end
   whole = begins zs start end at.low at.high (omega (arith, length-part zs start end at.low at.high, room.0))
 
   module _ (steps : List ProofStep) (are : steps_at zs 0 ends ≡ steps) where
     here : step_at steps place ≡ unpacked (part zs start end)
     here = ap (λ (x : List ProofStep). step_at x place) (sym are) ∙ step_there (steps_at zs 0 ends) _ place _ at.there
 
-    pub put_there : put_of (step_at steps place) ≡ put_by (kind_of (unsigned (get_or zs start (pos 0)))) (unsigned (get_or zs (start + 1) (pos 0)))
-    put_there = ap put_of here ∙ ap (λ x. put_of (unpacked x)) whole ∙ put_by_parts (kind_of (unsigned (get_or zs start (pos 0)))) _ _ _ _
+    pub put_there : put_of (step_at steps place) ≡ put_by (kind_in (unsigned (get_or zs start (pos 0)))) (unsigned (get_or zs (start + 1) (pos 0)))
+    put_there = ap put_of here ∙ ap (λ x. put_of (unpacked x)) whole ∙ put_by_parts (kind_in (unsigned (get_or zs start (pos 0)))) _ _ _ _
 
     pub hints_there : (name : Name) → has_hint (step_at steps place) name
-        ≡ hinted (hint_kind (kind_of (unsigned (get_or zs start (pos 0))))) (part zs (start + 3 + unsigned (get_or zs (start + 2) (pos 0))) end) name
+        ≡ hinted (hint_kind (kind_in (unsigned (get_or zs start (pos 0))))) (part zs (start + 2 + literals_in (unsigned (get_or zs start (pos 0)))) end) name
     hints_there name =
         let p = at.is_packed in
-        let m = unsigned (get_or zs (start + 2) (pos 0)) in
-        let count : end - (start + 3) ≡ m + (end - (start + 3 + m)) = omega (arith, hints_within) in
-        let rest : drop m (part zs (start + 3) end) ≡ part zs (start + 3 + m) end =
-        ap (λ k. drop m (take k (drop (start + 3) zs))) count ∙ drop-take m (end - (start + 3 + m)) (drop (start + 3) zs) ∙ ap (take (end - (start + 3 + m))) (drop-drop m (start + 3) zs) in
+        let m = literals_in (unsigned (get_or zs start (pos 0))) in
+        let count : end - (start + 2) ≡ m + (end - (start + 2 + m)) = omega (arith, hints_within) in
+        let rest : drop m (part zs (start + 2) end) ≡ part zs (start + 2 + m) end =
+        ap (λ k. drop m (take k (drop (start + 2) zs))) count ∙ drop-take m (end - (start + 2 + m)) (drop (start + 2) zs) ∙ ap (take (end - (start + 2 + m))) (drop-drop m (start + 2) zs) in
         ap (λ x. has_hint x name) (here ∙ ap unpacked p.is ∙ unpacked-packed p.step)
         ∙ hinted_packed p.step name
         ∙ ap (λ x. hinted_in x name) (sym p.is ∙ whole)
-        ∙ ap (λ x. hinted (hint_kind (kind_of (unsigned (get_or zs start (pos 0))))) x name) rest
+        ∙ ap (λ x. hinted (hint_kind (kind_in (unsigned (get_or zs start (pos 0))))) x name) rest
 
 -- ---- a loop over hints
 

@@ -5,33 +5,37 @@ use Rattle.std.proofs.lemmas.Bool.{ne_eqb}
 use Rattle.std.proofs.lemmas.List.{take_at, drop_at, take-take, drop-take}
 use Rattle.cx_base.specs.declared.steps.ProofStep.{ProofStep}
 use Rattle.cx_base.specs.declared.steps.ProofStep.TheVariants as step
-use Rattle.proof_trim.specs.declared.opened.StepKind.{StepKind}
-use Rattle.proof_trim.specs.declared.opened.StepKind.TheVariants as kind
+use Rattle.proof_trim.specs.declared.head.StepKind.{StepKind}
+use Rattle.proof_trim.specs.declared.head.StepKind.TheVariants as kind
+use Rattle.proof_trim.specs.Heads.{deletes, head_of, kind_in, literals_in}
 use Rattle.proof_trim.specs.Integers.{part, signed, unsigned}
-use Rattle.proof_trim.specs.Stored.{code_of, kind_of, deletes, listed, packed, step_by, unpacked, IsPacked, AreStored, steps_at, start_at, FitsIn}
+use Rattle.proof_trim.specs.Stored.{listed, packed, step_by, unpacked, IsPacked, AreStored, steps_at, start_at, FitsIn}
+use Rattle.proof_trim.proofs.HeadLaws.{kind_in-head_of, literals_in-head_of}
 use Rattle.proof_trim.proofs.PartLaws.{part_stays, part_last, part_begins, length-part, unsigned-signed}
 
 -- ---- one step
-
-pub kind_back : (k : StepKind) → kind_of (code_of k) ≡ k
-kind_back kind.Clause = refl
-kind_back kind.DeleteClauses = refl
-kind_back kind.Parity = refl
-kind_back kind.DeleteParities = refl
-kind_back kind.ClauseOfParity = refl
-kind_back kind.ParityOfClauses = refl
 
 ids_back : (ids : List ℕ) → map unsigned (map signed ids) ≡ ids
 ids_back [] = refl
 ids_back (n ∷ ids) = λ i. unsigned-signed n i ∷ ids_back ids i
 
+-- the head among a step's integers
+abbrev head_in : StepKind → List ℤ → ℕ
+head_in k xs = unsigned (signed (head_of k (length xs)))
+
+pub kind_packed : (k : StepKind) (xs : List ℤ) → kind_in (head_in k xs) ≡ k
+kind_packed k xs = ap kind_in (unsigned-signed (head_of k (length xs))) ∙ kind_in-head_of k (length xs)
+
+pub literals_packed : (k : StepKind) (xs : List ℤ) → literals_in (head_in k xs) ≡ length xs
+literals_packed k xs = ap literals_in (unsigned-signed (head_of k (length xs))) ∙ literals_in-head_of k (length xs)
+
+pub hints_packed : (k : StepKind) (xs ys : List ℤ) → drop (literals_in (head_in k xs)) (xs ++ ys) ≡ ys
+hints_packed k xs ys = ap (λ j. drop j (xs ++ ys)) (literals_packed k xs) ∙ drop_at xs ys (length xs) refl
+
 listed_back : (k : StepKind) (n : ℕ) (xs ys : List ℤ) → unpacked (listed k n xs ys) ≡ step_by k n xs ys (map unsigned (xs ++ ys))
 listed_back k n xs ys =
-    let is : kind_of (unsigned (signed (code_of k))) ≡ k = ap kind_of (unsigned-signed (code_of k)) ∙ kind_back k in
-    let long = unsigned-signed (length xs) in
-    let front : take (unsigned (signed (length xs))) (xs ++ ys) ≡ xs = ap (λ j. take j (xs ++ ys)) long ∙ take_at xs ys (length xs) refl in
-    let back : drop (unsigned (signed (length xs))) (xs ++ ys) ≡ ys = ap (λ j. drop j (xs ++ ys)) long ∙ drop_at xs ys (length xs) refl in
-    λ i. step_by (is i) (unsigned-signed n i) (front i) (back i) (map unsigned (xs ++ ys))
+    let front : take (literals_in (head_in k xs)) (xs ++ ys) ≡ xs = ap (λ j. take j (xs ++ ys)) (literals_packed k xs) ∙ take_at xs ys (length xs) refl in
+    λ i. step_by (kind_packed k xs i) (unsigned-signed n i) (front i) (hints_packed k xs ys i) (map unsigned (xs ++ ys))
 
 pub unpacked-packed : (s : ProofStep) → unpacked (packed s) ≡ s
 unpacked-packed (step.Clause n lits hints) = listed_back kind.Clause n lits hints
@@ -41,12 +45,12 @@ unpacked-packed (step.DeleteParities ids) = listed_back kind.DeleteParities 0 []
 unpacked-packed (step.ClauseOfParity n lits hint) = listed_back kind.ClauseOfParity n lits (hint ∷ [])
 unpacked-packed (step.ParityOfClauses n lits hints) = listed_back kind.ParityOfClauses n lits hints
 
--- three integers come first, and the third is no more than the number of the others
+-- a head and an id come first, and there are no more literals than other integers
 abbrev pub HasHead : List ℤ → Type 0
-HasHead zs = (3 ≤ length zs) × (unsigned (get_or zs 2 (pos 0)) + 3 ≤ length zs)
+HasHead zs = (2 ≤ length zs) × (literals_in (unsigned (get_or zs 0 (pos 0))) + 2 ≤ length zs)
 
 listed_head : (k : StepKind) (n : ℕ) (xs ys : List ℤ) → HasHead (listed k n xs ys)
-listed_head k n xs ys = (omega arith, omega (arith, unsigned-signed (length xs), length-append xs ys))
+listed_head k n xs ys = (omega arith, omega (arith, literals_packed k xs, length-append xs ys))
 
 packed_head : (s : ProofStep) → HasHead (packed s)
 packed_head (step.Clause n lits hints) = listed_head kind.Clause n lits hints
@@ -74,37 +78,34 @@ same_head x s xs rest e = cc
 -- ---- a step that is taken out of the others
 
 module _ (zs : List ℤ) (s e : ℕ) (low : s ≤ e) (high : e ≤ length zs) where
-  -- its first three integers
-  pub begins : 3 ≤ length (part zs s e) → part zs s e ≡ get_or zs s (pos 0) ∷ get_or zs (s + 1) (pos 0) ∷ get_or zs (s + 2) (pos 0) ∷ part zs (s + 3) e
+  -- its first two integers
+  pub begins : 2 ≤ length (part zs s e) → part zs s e ≡ get_or zs s (pos 0) ∷ get_or zs (s + 1) (pos 0) ∷ part zs (s + 2) e
   begins h =
       let long = length-part zs s e low high in
       let two : (s + 1) + 1 ≡ s + 2 = omega arith in
-      let three : (s + 2) + 1 ≡ s + 3 = omega arith in
       part_begins zs s e (pos 0) (omega (arith, long)) high
       ∙ ap (λ x. get_or zs s (pos 0) ∷ x)
-      (part_begins zs (s + 1) e (pos 0) (omega (arith, long)) high
-      ∙ ap (λ x. get_or zs (s + 1) (pos 0) ∷ x)
-      (ap (λ n. part zs n e) two ∙ part_begins zs (s + 2) e (pos 0) (omega (arith, long)) high ∙ ap (λ n. get_or zs (s + 2) (pos 0) ∷ part zs n e) three))
+      (part_begins zs (s + 1) e (pos 0) (omega (arith, long)) high ∙ ap (λ n. get_or zs (s + 1) (pos 0) ∷ part zs n e) two)
 
-  pub has_room : (most : ℕ) → IsPacked most (part zs s e) → (s + 3 ≤ e) × (unsigned (get_or zs (s + 2) (pos 0)) ≤ e - (s + 3)) × (e - (s + 3) ≤ most)
+  pub has_room : (most : ℕ) → IsPacked most (part zs s e) → (s + 2 ≤ e) × (literals_in (unsigned (get_or zs s (pos 0))) ≤ e - (s + 2)) × (e - (s + 2) ≤ most)
   has_room most p =
       let long = length-part zs s e low high in
       let h = subst (λ (x : List ℤ). HasHead x) (sym p.is) (packed_head p.step) in
-      let third : get_or (part zs s e) 2 (pos 0) ≡ get_or zs (s + 2) (pos 0) = ap (λ x. get_or x 2 (pos 0)) (begins h.0) in
-      (omega (arith, long, h.0), omega (arith, long, h.0, h.1, ap unsigned third), omega (arith, long, p.short))
+      let first : get_or (part zs s e) 0 (pos 0) ≡ get_or zs s (pos 0) = ap (λ x. get_or x 0 (pos 0)) (begins h.0) in
+      (omega (arith, long, h.0), omega (arith, long, h.0, h.1, ap (λ z. literals_in (unsigned z)) first), omega (arith, long, p.short))
 
   -- the step of its head and of the places over which its lists were copied
-  pub opened_as : (k : StepKind) (n middle : ℕ) (integers : List ℤ) (ids : List ℕ) → s + 3 ≤ e → middle ≤ e - (s + 3)
-      → k ≡ kind_of (unsigned (get_or zs s (pos 0))) → n ≡ unsigned (get_or zs (s + 1) (pos 0)) → middle ≡ unsigned (get_or zs (s + 2) (pos 0))
-      → take (e - (s + 3)) integers ≡ part zs (s + 3) e → (deletes k ≡ true → take (e - (s + 3)) ids ≡ map unsigned (part zs (s + 3) e))
-      → step_by k n (take middle integers) (part integers middle (e - (s + 3))) (take (e - (s + 3)) ids) ≡ unpacked (part zs s e)
+  pub opened_as : (k : StepKind) (n middle : ℕ) (integers : List ℤ) (ids : List ℕ) → s + 2 ≤ e → middle ≤ e - (s + 2)
+      → k ≡ kind_in (unsigned (get_or zs s (pos 0))) → n ≡ unsigned (get_or zs (s + 1) (pos 0)) → middle ≡ literals_in (unsigned (get_or zs s (pos 0)))
+      → take (e - (s + 2)) integers ≡ part zs (s + 2) e → (deletes k ≡ true → take (e - (s + 2)) ids ≡ map unsigned (part zs (s + 2) e))
+      → step_by k n (take middle integers) (part integers middle (e - (s + 2))) (take (e - (s + 2)) ids) ≡ unpacked (part zs s e)
   opened_as k n middle integers ids head inside is_k is_n is_m copied copied_ids =
-      let rest = part zs (s + 3) e in
-      let end = e - (s + 3) in
+      let rest = part zs (s + 2) e in
+      let end = e - (s + 2) in
       let all : middle + (end - middle) ≡ end = omega arith in
       let front : take middle integers ≡ take middle rest = sym (take-take middle end integers inside) ∙ ap (take middle) copied in
       let back : part integers middle end ≡ drop middle rest = sym (drop-take middle (end - middle) integers) ∙ ap (λ j. drop middle (take j integers)) all ∙ ap (drop middle) copied in
-      let whole : part zs s e ≡ get_or zs s (pos 0) ∷ get_or zs (s + 1) (pos 0) ∷ get_or zs (s + 2) (pos 0) ∷ rest = begins (omega (arith, length-part zs s e low high)) in
+      let whole : part zs s e ≡ get_or zs s (pos 0) ∷ get_or zs (s + 1) (pos 0) ∷ rest = begins (omega (arith, length-part zs s e low high)) in
       (λ i. step_by k n (front i) (back i) (take end ids)) ∙ same_ids k n (take middle rest) (drop middle rest) (take end ids) (map unsigned rest) copied_ids
       ∙ (λ i. step_by (is_k i) (is_n i) (take (is_m i) rest) (drop (is_m i) rest) (map unsigned rest)) ∙ ap unpacked (sym whole)
 

@@ -7,6 +7,7 @@ pub mod NameSets
 pub mod Outcomes
 pub mod Laws
 pub mod Integers
+pub mod Heads
 pub mod Stored
 pub mod Kept
 pub mod Puts

@@ -4,8 +4,8 @@ use Rattle.cx_base.specs.declared.steps.ProofStep.{ProofStep}
 use Rattle.cx_base.specs.declared.steps.ProofStep.TheVariants as step
 use Rattle.proof_rules.specs.declared.live.Kind.{Kind}
 use Rattle.proof_rules.specs.declared.live.Kind.TheVariants.{Clauses, Parities}
-use Rattle.proof_trim.specs.declared.opened.StepKind.{StepKind}
-use Rattle.proof_trim.specs.declared.opened.StepKind.TheVariants as kind
+use Rattle.proof_trim.specs.declared.head.StepKind.{StepKind}
+use Rattle.proof_trim.specs.declared.head.StepKind.TheVariants as kind
 use Rattle.proof_trim.specs.declared.put.Put.{Put}
 
 -- what the step puts, if it is no deletion

@@ -1,43 +1,18 @@
 -- Steps as integers, one step after another.
-use Rattle.std.specs.Prelude.{◌≡◌, ◌≤◌, ◌++◌, ℕ, ℤ, pos, Bool, true, false, nat_eq, if◌then◌else◌, List, [], ◌∷◌, length, map, take, drop, get_or, ◌-◌}
+use Rattle.std.specs.Prelude.{◌≡◌, ◌≤◌, ◌++◌, ◌-◌, ℕ, ℤ, pos, nat_eq, if◌then◌else◌, List, [], ◌∷◌, length, map, take, drop, get_or}
 use Rattle.cx_base.specs.declared.steps.ProofStep.{ProofStep}
 use Rattle.cx_base.specs.declared.steps.ProofStep.TheVariants as step
+use Rattle.proof_trim.specs.Heads.{head_of, kind_in, literals_in}
 use Rattle.proof_trim.specs.Integers.{part, signed, unsigned}
-use Rattle.proof_trim.specs.declared.opened.StepKind.{StepKind}
-use Rattle.proof_trim.specs.declared.opened.StepKind.TheVariants as kind
-use Rattle.proof_trim.specs.declared.opened.StepHead.{StepHead}
-
-abbrev pub code_of : StepKind → ℕ
-code_of kind.Clause = 0
-code_of kind.DeleteClauses = 1
-code_of kind.Parity = 2
-code_of kind.DeleteParities = 3
-code_of kind.ClauseOfParity = 4
-code_of kind.ParityOfClauses = 5
-
-abbrev pub kind_of : ℕ → StepKind
-kind_of n =
-    if nat_eq n 0 then kind.Clause
-    else (if nat_eq n 1 then kind.DeleteClauses
-    else (if nat_eq n 2 then kind.Parity
-    else (if nat_eq n 3 then kind.DeleteParities
-    else (if nat_eq n 4 then kind.ClauseOfParity
-    else kind.ParityOfClauses))))
-
--- a step of this kind deletes
-abbrev pub deletes : StepKind → Bool
-deletes kind.Clause = false
-deletes kind.DeleteClauses = true
-deletes kind.Parity = false
-deletes kind.DeleteParities = true
-deletes kind.ClauseOfParity = false
-deletes kind.ParityOfClauses = false
+use Rattle.proof_trim.specs.declared.head.StepKind.{StepKind}
+use Rattle.proof_trim.specs.declared.head.StepKind.TheVariants as kind
+use Rattle.proof_trim.specs.declared.head.StepHead.{StepHead}
 
 -- ---- a step as integers
 
--- a step's kind, id and two lists
+-- a step's head, id and two lists
 abbrev pub listed : StepKind → ℕ → List ℤ → List ℤ → List ℤ
-listed k n xs ys = signed (code_of k) ∷ signed n ∷ signed (length xs) ∷ (xs ++ ys)
+listed k n xs ys = signed (head_of k (length xs)) ∷ signed n ∷ (xs ++ ys)
 
 -- the integers of a step; of a deletion the second list has the ids
 abbrev pub packed : ProofStep → List ℤ
@@ -65,10 +40,10 @@ step_by kind.ParityOfClauses n lits hints ids = step.ParityOfClauses n lits hint
 
 -- the step of these integers
 abbrev pub unpacked : List ℤ → ProofStep
-unpacked (k ∷ n ∷ m ∷ zs) = step_by (kind_of (unsigned k)) (unsigned n) (take (unsigned m) zs) (drop (unsigned m) zs) (map unsigned zs)
+unpacked (h ∷ n ∷ zs) =
+    let middle = literals_in (unsigned h) in step_by (kind_in (unsigned h)) (unsigned n) (take middle zs) (drop middle zs) (map unsigned zs)
 unpacked [] = step.DeleteParities []
-unpacked (k ∷ []) = step.DeleteParities []
-unpacked (k ∷ n ∷ []) = step.DeleteParities []
+unpacked (h ∷ []) = step.DeleteParities []
 
 -- ---- steps one after another
 
@@ -103,6 +78,6 @@ pub record Opened : Type 0 where
 abbrev pub FitsIn : ℕ → ProofStep → Type 0
 FitsIn room s = length (packed s) ≤ room
 
--- the step of a head and its lists
-abbrev pub step_from : StepHead → List ℤ → List ℕ → ProofStep
-step_from h zs ids = step_by h.kind h.id (take h.middle zs) (part zs h.middle h.end) (take h.end ids)
+-- the step of a head, an id and the lists, which have so many integers
+abbrev pub step_from : StepHead → ℕ → ℕ → List ℤ → List ℕ → ProofStep
+step_from h id len zs ids = step_by h.kind id (take h.literals zs) (part zs h.literals len) (take len ids)

@@ -3,6 +3,7 @@
 
 mod back;
 mod before;
+mod head;
 mod ids;
 mod integers;
 mod keep;

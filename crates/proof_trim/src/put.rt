@@ -2,7 +2,7 @@
 ghost use Rattle.std.specs.Prelude.{◌≡◌};
 ghost use Rattle.proof_trim.specs.Puts.{hint_kind, put_by};
 
-use crate::opened::StepKind;
+use crate::head::StepKind;
 use proof_rules::Kind;
 
 /// A constraint of this kind, put under this id.

@@ -1,6 +1,7 @@
 //! Steps, packed: their integers lie one after another.
 ghost use Rattle.std.specs.Prelude.{◌≡◌, ◌<◌, ◌++◌, ◌||◌, ◌∷◌, suc, pos, [], false, length, map, drop, get_or, OnOk, IfOk};
 ghost use Rattle.std.specs.List.{AllByRecursion, list_any};
+ghost use Rattle.proof_trim.specs.Heads.{head_of};
 ghost use Rattle.proof_trim.specs.Integers.{signed, unsigned};
 ghost use Rattle.proof_trim.specs.Marking.{puts_wanted, wanted_before};
 ghost use Rattle.proof_trim.specs.NameSets.{Has, has_name};
@@ -8,10 +9,11 @@ ghost use Rattle.proof_trim.specs.Puts.{is_deletion, put_of, step_at};
 ghost use Rattle.proof_trim.specs.Stored.{FitsIn, listed, packed, start_at};
 
 use crate::before::want_before;
+use crate::head::{PackedStep, StepHead, StepKind};
 use crate::integers::{Integers, signed, unsigned};
 use crate::longer::LongerIntegers;
 use crate::names::NameSet;
-use crate::opened::{OpenedStep, StepKind, code_of, head_at};
+use crate::opened::OpenedStep;
 use crate::put::{Put, put_by};
 use cx_base::ProofStep;
 use std::alloc::{AllocError, Global};
@@ -21,7 +23,7 @@ use xlrup_check::Recorder;
 /// Steps of a proof. They take less memory than their text, nearly always.
 #[derive(Drop)]
 pub(crate) struct StepStore {
-    /// Each step's kind, id, and how many literals it has, and then its literals, and its hints or ids.
+    /// Each step's head and id, and then its literals, and its hints or ids.
     integers: Integers,
     /// Where each step ends.
     ends: LongerIntegers,
@@ -45,6 +47,21 @@ impl Model for StepStore {
     ghost invariant = { λ a. AreStored a.integers 0 a.ends a.longest × (a.deletes ≡ false → list_any is_deletion (steps_at a.integers 0 a.ends) ≡ false) };
 }
 
+/// Packs a step's head and id after the others.
+#[inline(always)]
+fn pack_head(
+    integers: &mut Integers,
+    kind: StepKind,
+    id: u64,
+    literals: usize,
+) -> Result<(), AllocError>
+    ensures { OnOk result (integers.new ≡ (integers.old ++ signed (head_of kind literals) ∷ []) ++ signed id ∷ []) }
+{
+    let head = StepHead { kind, literals };
+    integers.push_id(head.pack()?)?;
+    integers.push_id(id)
+}
+
 /// Packs a step's kind, id and lists after the others.
 fn pack_lists(
     integers: &mut Integers,
@@ -55,9 +72,7 @@ fn pack_lists(
 ) -> Result<(), AllocError>
     ensures { OnOk result (integers.new ≡ integers.old ++ listed kind id literals.now hints.now) }
 {
-    integers.push_id(code_of(kind))?;
-    integers.push_id(id)?;
-    integers.push_id(literals.len() as u64)?;
+    pack_head(integers, kind, id, literals.len())?;
     integers.extend(literals)?;
     integers.extend(hints)
 }
@@ -66,9 +81,7 @@ fn pack_lists(
 fn pack_ids(integers: &mut Integers, kind: StepKind, id: u64, ids: &[u64]) -> Result<(), AllocError>
     ensures { OnOk result (integers.new ≡ integers.old ++ listed kind id [] (map signed ids.now)) }
 {
-    integers.push_id(code_of(kind))?;
-    integers.push_id(id)?;
-    integers.push_id(0)?;
+    pack_head(integers, kind, id, 0)?;
     integers.extend_ids(ids)
 }
 
@@ -210,8 +223,8 @@ impl StepStore {
     {
         let start = start_of(&self.ends, place);
         let end = end_of(&self.ends, place);
-        let head = head_at(&self.integers, start, end);
-        put_by(head.kind, head.id)
+        let step = PackedStep::at(&self.integers, start, end);
+        put_by(step.head.kind, step.id)
     }
 
     /// Goes back over the step at a place, from 0: whether it is needed. Its head is taken once, and its literals not at all.
@@ -228,8 +241,8 @@ impl StepStore {
     {
         let start = start_of(&self.ends, place);
         let end = end_of(&self.ends, place);
-        let head = head_at(&self.integers, start, end);
-        want_before(wanted, &head, &self.integers, end, is_last)
+        let step = PackedStep::at(&self.integers, start, end);
+        want_before(wanted, step, &self.integers, is_last)
     }
 
     /// Whether some step may delete.

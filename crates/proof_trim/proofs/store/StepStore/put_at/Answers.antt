@@ -10,13 +10,13 @@ start_of-start-requires c = omega (arith, length-steps c.self.inside.integers 0 
 pub end_of-end-requires : goal.end_of-end-requires
 end_of-end-requires c = omega (arith, length-steps c.self.inside.integers 0 c.self.inside.ends, ap length c.self.view_is, c.requires)
 
-pub head_at-head-requires-clause-low : goal.head_at-head-requires-clause-low
-head_at-head-requires-clause-low c =
+pub at-step-requires-clause-low : goal.at-step-requires-clause-low
+at-step-requires-clause-low c =
     let less : c.args.place < length c.self.inside.ends = omega (arith, length-steps c.self.inside.integers 0 c.self.inside.ends, ap length c.self.view_is, c.requires) in
     (head_within c.self.inside.integers c.self.inside.ends c.self.inside.longest c.args.place _ _ c.self.invariant.0 less c.start_of-start.ensures c.end_of-end.ensures).0
 
-pub head_at-head-requires-clause-high : goal.head_at-head-requires-clause-high
-head_at-head-requires-clause-high c =
+pub at-step-requires-clause-high : goal.at-step-requires-clause-high
+at-step-requires-clause-high c =
     let less : c.args.place < length c.self.inside.ends = omega (arith, length-steps c.self.inside.integers 0 c.self.inside.ends, ap length c.self.view_is, c.requires) in
     (head_within c.self.inside.integers c.self.inside.ends c.self.inside.longest c.args.place _ _ c.self.invariant.0 less c.start_of-start.ensures c.end_of-end.ensures).1
 
@@ -25,5 +25,5 @@ returns c =
     let zs = c.self.inside.integers in
     let ends = c.self.inside.ends in
     let less : c.args.place < length ends = omega (arith, length-steps zs 0 ends, ap length c.self.view_is, c.requires) in
-    let head = c.head_at-head.ensures in
+    let head = c.at-step.ensures in
     c.put_by.ensures ∙ (λ i. put_by (head.kind i) (head.id i)) ∙ sym (put_there zs ends c.self.inside.longest c.args.place _ _ c.self.invariant.0 less c.start_of-start.ensures c.end_of-end.ensures _ c.self.view_is)
