@@ -1,5 +1,5 @@
--- The three steps of a row that was told keep the search that fits the code.
-use Rattle.std.proofs.Common.{◌≡◌, ◌≢◌, refl, sym, ap, ◌∙◌, subst, ℕ, zero, suc, ◌+◌, ◌-◌, ◌<◌, ◌≤◌, ℤ, true, false, List, [], ◌∷◌, ◌++◌, length, get_or, map, Option, Some, None, is_some, Contains, arith, inl, inr, length-append}
+-- The steps of a row that was told keep the search that fits the code.
+use Rattle.std.proofs.Common.{◌≡◌, ◌≢◌, refl, sym, ap, ◌∙◌, subst, ℕ, zero, suc, ◌+◌, ◌-◌, ◌<◌, ◌≤◌, ℤ, Bool, true, false, List, [], ◌∷◌, ◌++◌, length, get_or, map, Option, Some, None, is_some, Contains, arith, inl, inr, length-append}
 use Rattle.std.specs.List.{AllByRecursion, cons_option}
 use Rattle.std.specs.FinMap as map_
 use Rattle.std.specs.FinSet as set
@@ -11,10 +11,10 @@ use Rattle.cx_base.specs.Problem.{Problem, parities_of, AreWithin, parity_met, c
 use Rattle.cx_base.specs.declared.constraint.Constraint.{Constraint}
 use Rattle.cx_base.specs.declared.constraint.Constraint.TheVariants as constraint
 use Rattle.cx_semantics.specs.Chain.{has_literal}
-use Rattle.cx_base.specs.declared.steps.LogStep.TheVariants.{Parity}
+use Rattle.cx_base.specs.declared.steps.LogStep.TheVariants.{ClauseOfParity}
 use Rattle.cx_base.specs.declared.steps.LogEvent.{LogEvent}
 use Rattle.cx_base.specs.declared.steps.LogEvent.TheVariants.{Step}
-use Rattle.cx_base.specs.Integers.{integers_of, literals}
+use Rattle.cx_base.specs.Integers.{integer_of, integers_of, literal, literals}
 use Rattle.cx_semantics.specs.LogRules.{AreLive}
 use Rattle.cx_base.specs.Assumptions.{is_ending}
 use Rattle.cx_semantics.specs.Tables.{Table, get, named}
@@ -26,14 +26,14 @@ use Rattle.parity_engine.proofs.Rising.{rising_low}
 use Rattle.xor_reason.specs.declared.reason.ReasonOf.{ReasonOf}
 use Rattle.xor_reason.proofs.ClauseLaws.{contains_written, has_written}
 use Rattle.search_steps.specs.Search.{Search, IsSearch, told}
-use Rattle.search_steps.specs.LogSteps.{IsAddition, IsRowOf, IsClauseOfRow, IsRowReason, row_events, all_told}
+use Rattle.search_steps.specs.LogSteps.{IsAddition, IsRowOf, IsClauseOfRow, IsRowReason, row_events, sum_events, all_told}
 use Rattle.search_steps.specs.Holding.{AreTold}
-use Rattle.search_steps.specs.Size.{HasFewAdditions, additions}
+use Rattle.search_steps.specs.Ids.{IsRanged, HasFreeSums}
+use Rattle.search_steps.specs.Size.{additions}
 use Rattle.search_steps.specs.Trail.{held}
 use Rattle.search_steps.proofs.StartLaws.{variables_are_within}
-use Rattle.search_steps.proofs.LogLaws.{sum_keeps}
-use Rattle.search_steps.proofs.RowReasons.{row_reason_keeps, row_reason_sums, row_reason_old_sums}
-use Rattle.search_steps.proofs.IdLaws.{row_next_is_free, row_reason_ranged, row_reason_frees_sum}
+use Rattle.search_steps.proofs.RowReasons.{row_cases, source_keeps, summed_keeps, sum_leaves_none, sum_leaves_no_old}
+use Rattle.search_steps.proofs.IdLaws.{row_next_is_free, row_clause_ranged, summed_frees_sum}
 use Rattle.search_steps.proofs.EndLaws.{is_log_open}
 use Rattle.search_steps.proofs.SizeLaws.{told_adds}
 use Rattle.cx_semantics.proofs.Members.{has_at_head, has_behind}
@@ -118,8 +118,17 @@ module _ (formula : Problem) (c : SearchState) (e : State) (rows : List (List Li
   clause_within = within_by formula.variables r.clause (λ l h. form_within l.variable (in_form x.form r.clause x.one_of_each l h))
 
 -- ---- a row is told
-module _ (formula : Problem) (c : SearchState) (e : State) (rows : List (List Literal)) (s : Search) (ok : IsSearch formula e.parities s) (t : Ties formula c e rows s)
-    (r : ReasonOf) (x : Explains e.parities c.trail r) (back_parity : literals (integers_of r.parity) ≡ r.parity) (back_clause : literals (integers_of r.clause) ≡ r.clause) where
+spelt : (n : ℕ) (b : Bool) → 1 ≤ n → literal (integer_of (record { variable = n; negative = b })) ≡ record { variable = n; negative = b }
+spelt zero b h = absurd (omega (arith, h))
+spelt (suc n) true h = refl
+spelt (suc n) false h = refl
+
+-- the integers of literals of the formula stand for them
+spells : (n : ℕ) (lits : List Literal) → AreWithin n lits → literals (integers_of lits) ≡ lits
+spells n [] w = refl
+spells n (l ∷ lits) w = (λ i. spelt l.variable l.negative w.0.0 i ∷ spells n lits w.1 i)
+
+module _ (formula : Problem) (c : SearchState) (e : State) (rows : List (List Literal)) (s : Search) (ok : IsSearch formula e.parities s) (t : Ties formula c e rows s) (r : ReasonOf) (x : Explains e.parities c.trail r) where
   abbrev theirs : List (List Literal)
   theirs = e.parities
 
@@ -144,6 +153,12 @@ module _ (formula : Problem) (c : SearchState) (e : State) (rows : List (List Li
   abbrev within_its : AreWithin formula.variables r.parity × AreWithin formula.variables r.clause
   within_its = (parity_within formula c e rows s t r x, clause_within formula c e rows s t r x)
 
+  back_parity : literals rs ≡ r.parity
+  back_parity = spells formula.variables r.parity within_its.0
+
+  back_clause : literals zs ≡ r.clause
+  back_clause = spells formula.variables r.clause within_its.1
+
   names_same : named s.moment.tables.parities r.sources ≡ numbered theirs r.sources
   names_same = named_are s.moment.tables.parities theirs t.log.numbered 1 r.sources (omega arith) x.numbers
 
@@ -160,42 +175,27 @@ module _ (formula : Problem) (c : SearchState) (e : State) (rows : List (List Li
     sums = normal ∙ x.sums ∙ ap (λ ps. sum_of (map normal_form ps)) (sym names_same);
   }
 
-  pub clause_added : IsAddition formula s.moment.tables.clauses n zs
+  clause_added : IsAddition formula s.moment.tables.clauses n zs
   clause_added = record {
     within = variables_are_within formula.variables r.clause within_its.1;
     free = row_next_is_free formula (first_row_id c.next) c.next (first_row_id c.next + length rows) s t.log.ranged (omega arith);
   }
 
-  pub clause_is : IsClauseOfRow formula.variables (literals rs) (literals zs)
+  clause_is : IsClauseOfRow formula.variables (literals rs) (literals zs)
   clause_is = record {
     within = subst (AreWithin formula.variables) (sym back_clause) within_its.1;
     one_of_each = subst (HasOneOfEach (normal_form (literals rs)).variables) (sym back_clause) (subst (λ f. HasOneOfEach f.variables r.clause) (sym normal) x.one_of_each);
     implied = λ values h. ap (clause_met values) back_clause ∙ x.follows values (ap (parity_met values) (sym back_parity) ∙ h);
   }
 
-  abbrev after_sum : Search
-  after_sum = told s (Step (Parity k rs r.sources))
-
-  pub sum_told : IsSearch formula theirs after_sum
-  sum_told = sum_keeps formula theirs s ok k rs r.sources row_added row_is
-
-  pub sum_is : get after_sum.moment.tables.parities k ≡ Some (literals rs)
-  sum_is = put_same s.moment.tables.parities k (literals rs)
-
   module _ (some : is_ending formula.constraints r.clause ≡ false) (room : length rows ≤ formula.variables) where
     reason_is : IsRowReason formula theirs s k rs r.sources n zs
     reason_is = record { high = high; row_step = row_added; row = row_is; clause_step = clause_added; clause = clause_is; goes_on = ap (is_ending formula.constraints) back_clause ∙ some }
 
-    told_is_search : IsSearch formula theirs (all_told s steps)
-    told_is_search = row_reason_keeps formula theirs s k rs r.sources n zs reason_is ok
+    one_longer : length (rows ++ r.clause ∷ []) ≡ suc (length rows)
+    one_longer = let long = length-append rows (r.clause ∷ []) in omega (arith, long)
 
-    numbered_still : AreNumbered (all_told s steps).moment.tables.parities theirs
-    numbered_still m low few =
-        let above = high in
-        let other : m ≢ k = λ same. omega (arith, same, few, above) in
-        drop_other (map_.insert s.moment.tables.parities k (literals rs)) k m other ∙ put_other s.moment.tables.parities k m (literals rs) other ∙ t.log.numbered m low few
-
-    rows_more : AreRows (all_told s steps).moment.tables.clauses (first_row_id c.next) (rows ++ r.clause ∷ [])
+    rows_more : AreRows (map_.insert s.moment.tables.clauses n (literals zs)) (first_row_id c.next) (rows ++ r.clause ∷ [])
     rows_more i less = elim (Rattle.std.proofs.lemmas.Bool.cases_lt i (length rows)) [
       | inl old ↦
           put_other s.moment.tables.clauses n (first_row_id c.next + i) (literals zs) (λ same. omega (arith, same, old)) ∙ t.log.rows_told i old ∙ ap Some (sym (get_or-append rows (r.clause ∷ []) [] i old))
@@ -206,50 +206,74 @@ module _ (formula : Problem) (c : SearchState) (e : State) (rows : List (List Li
           ∙ ap (λ j. Some (get_or (rows ++ r.clause ∷ []) j [])) (sym last)
     ]
 
-    one_longer : length (rows ++ r.clause ∷ []) ≡ suc (length rows)
-    one_longer = let long = length-append rows (r.clause ∷ []) in omega (arith, long)
+    -- the clause is put, under the next id of a row, after these events and with these parities and sums
+    module _ (events : List LogEvent) (parities : Table) (new_sums old_sums : List ℕ) where
+      abbrev put : Search
+      put = record s {
+        events = events;
+        moment = record s.moment { tables = record { clauses = map_.insert s.moment.tables.clauses n (literals zs); parities = parities }; new_clauses = n ∷ s.moment.new_clauses; new_sums = new_sums; old_sums = old_sums };
+      }
 
-    served_still : HasOnlyRowClauses (all_told s steps) (first_row_id c.next) (length (rows ++ r.clause ∷ []))
-    served_still = record {
-      served = t.log.served.served;
-      old_clauses = t.log.served.old_clauses;
-      new_clauses = ap (λ ids. n ∷ ids) t.log.served.new_clauses ∙ ap (row_ids (first_row_id c.next)) (sym one_longer);
-      old_sums = row_reason_old_sums formula theirs s k rs r.sources n zs reason_is t.log.served.old_sums;
-      new_sums = row_reason_sums formula theirs s k rs r.sources n zs reason_is t.log.served.new_sums;
-    }
+      ranged_still : IsRanged formula (first_row_id c.next) c.next (n + 1) s.trail put.moment
+      ranged_still =
+          let i = row_clause_ranged formula (first_row_id c.next) c.next (first_row_id c.next + length rows) s t.log.ranged n zs k (omega arith) (omega arith) in
+          record { originals = i.originals; room = i.room; reasons = i.reasons; learned = i.learned; new_rows = i.new_rows; old_rows = i.old_rows; free = i.free; rows_free = i.rows_free }
 
-    few_still : HasFewAdditions formula c.next (first_row_id c.next) (length (rows ++ r.clause ∷ [])) (all_told s steps)
-    few_still =
-        let was = t.log.few_additions in
-        let long = one_longer in
-        let two : additions (all_told s steps).events ≡ additions s.events + 2 = told_adds s steps in
-        omega (arith, was, long, two)
+      served_still : new_sums ≡ [] → old_sums ≡ [] → HasOnlyRowClauses put (first_row_id c.next) (length (rows ++ r.clause ∷ []))
+      served_still no_new no_old = record {
+        served = t.log.served.served;
+        old_clauses = t.log.served.old_clauses;
+        new_clauses = ap (λ ids. n ∷ ids) t.log.served.new_clauses ∙ ap (row_ids (first_row_id c.next)) (sym one_longer);
+        old_sums = no_old;
+        new_sums = no_new;
+      }
 
-    ties_still : Ties formula c e (rows ++ r.clause ∷ []) (all_told s steps)
-    ties_still = record {
-      log = record {
-        ranged = subst (λ m. Rattle.search_steps.specs.Ids.IsRanged formula (first_row_id c.next) c.next m s.trail (all_told s steps).moment) (let long = one_longer in omega (arith, long))
-            (row_reason_ranged formula (first_row_id c.next) c.next (first_row_id c.next + length rows) s k rs r.sources n zs (omega arith) (omega arith) t.log.ranged);
-        sums = row_reason_frees_sum (length theirs) s k rs r.sources n zs t.log.sums;
-        numbered = numbered_still;
-        rows_told = rows_more;
-        few_rows = let long = one_longer in omega (arith, long, room);
-        few_additions = few_still;
-        none_at_0 = put_other s.moment.tables.clauses n 0 (literals zs) (λ same. omega (arith, same)) ∙ t.log.none_at_0;
-        served = served_still;
-      };
-      clauses = clauses_stay formula s.moment.tables.clauses (all_told s steps).moment.tables.clauses c.next c.arena (held 0 s.trail) (put_answers_below c.next n s.moment.tables.clauses (literals zs) (omega arith)) t.clauses;
-      trail = t.trail;
-      units = units_stay s.moment.tables.clauses (all_told s steps).moment.tables.clauses c.next c.trail s.trail c.units.items (put_answers_below c.next n s.moment.tables.clauses (literals zs) (omega arith)) t.units;
-      engine = t.engine;
-      reasons = t.reasons;
-      counts = record { marked = t.counts.marked; falling = t.counts.falling; many = t.counts.many; few = t.counts.few };
-      ids = t.ids;
-      levels = t.levels;
-    }
+      ties_still : AreNumbered parities theirs → HasFreeSums (length theirs) put.moment → new_sums ≡ [] → old_sums ≡ [] → additions events ≤ additions s.events + 2 → Ties formula c e (rows ++ r.clause ∷ []) put
+      ties_still numbered free no_new no_old few = record {
+        log = record {
+          ranged = subst (λ m. IsRanged formula (first_row_id c.next) c.next m s.trail put.moment) (let long = one_longer in omega (arith, long)) ranged_still;
+          sums = free;
+          numbered = numbered;
+          rows_told = rows_more;
+          few_rows = let long = one_longer in omega (arith, long, room);
+          few_additions = let was = t.log.few_additions in let long = one_longer in omega (arith, was, long, few);
+          none_at_0 = put_other s.moment.tables.clauses n 0 (literals zs) (λ same. omega (arith, same)) ∙ t.log.none_at_0;
+          served = served_still no_new no_old;
+        };
+        clauses = clauses_stay formula s.moment.tables.clauses put.moment.tables.clauses c.next c.arena (held 0 s.trail) (put_answers_below c.next n s.moment.tables.clauses (literals zs) (omega arith)) t.clauses;
+        trail = t.trail;
+        units = units_stay s.moment.tables.clauses put.moment.tables.clauses c.next c.trail s.trail c.units.items (put_answers_below c.next n s.moment.tables.clauses (literals zs) (omega arith)) t.units;
+        engine = t.engine;
+        reasons = t.reasons;
+        counts = record { marked = t.counts.marked; falling = t.counts.falling; many = t.counts.many; few = t.counts.few };
+        ids = t.ids;
+        levels = t.levels;
+      }
+
+    -- from one source
+    source_ties : (source : ℕ) → Ties formula c e (rows ++ r.clause ∷ []) (told s (Step (ClauseOfParity n zs source)))
+    source_ties source = ties_still (s.events ++ Step (ClauseOfParity n zs source) ∷ []) s.moment.tables.parities s.moment.new_sums s.moment.old_sums t.log.numbered t.log.sums t.log.served.new_sums t.log.served.old_sums
+        (let one = told_adds s (Step (ClauseOfParity n zs source) ∷ []) in omega (arith, one))
+
+    -- from a sum
+    abbrev summed : Search
+    summed = all_told s (sum_events k rs r.sources n zs)
+
+    numbered_still : AreNumbered summed.moment.tables.parities theirs
+    numbered_still m low few =
+        let above = high in
+        let other : m ≢ k = λ same. omega (arith, same, few, above) in
+        drop_other (map_.insert s.moment.tables.parities k (literals rs)) k m other ∙ put_other s.moment.tables.parities k m (literals rs) other ∙ t.log.numbered m low few
+
+    sum_ties : Ties formula c e (rows ++ r.clause ∷ []) summed
+    sum_ties = ties_still summed.events summed.moment.tables.parities summed.moment.new_sums summed.moment.old_sums numbered_still (summed_frees_sum (length theirs) s k rs r.sources n zs t.log.sums)
+        (sum_leaves_none s k rs r.sources n zs t.log.served.new_sums) (sum_leaves_no_old s k rs r.sources n zs t.log.served.old_sums)
+        (let two = told_adds s (sum_events k rs r.sources n zs) in omega (arith, two))
 
     pub stands_still : (told_ : Option (List LogEvent)) → AreTold told_ s.events → IsWatched c.watches c.arena c.trail → SearchStands formula c e (rows ++ r.clause ∷ []) (with_events steps told_)
-    stands_still told_ a f = (all_told s steps, told_is_search, all_told_are steps s told_ a, ties_still, f)
+    stands_still told_ a f = row_cases (λ es. SearchStands formula c e (rows ++ r.clause ∷ []) (with_events es told_)) k rs r.sources n zs
+        (λ source is. (told s (Step (ClauseOfParity n zs source)), source_keeps formula theirs s k rs r.sources n zs reason_is ok source is, all_told_are (Step (ClauseOfParity n zs source) ∷ []) s told_ a, source_ties source, f))
+        (summed, summed_keeps formula theirs s k rs r.sources n zs reason_is ok, all_told_are (sum_events k rs r.sources n zs) s told_ a, sum_ties, f)
 
 -- ---- what a telling leaves
 rising_ids : (least few : ℕ) (ids : List ℕ) → 1 ≤ least → few ≤ 2000000000000000000 → AreRising least few ids → AllByRecursion Rattle.cdcl_search.specs.Tells.IsId ids
@@ -266,11 +290,11 @@ module _ (formula : Problem) (c : SearchState) (e : State) (rows : List (List Li
   pub left_now : IsLeft formula old
   left_now = is_left formula e.parities st.0 old st.1 st.3.log.served.served st.2
 
-  module _ (r : ReasonOf) (x : Explains e.parities c.trail r) (back_parity : literals (integers_of r.parity) ≡ r.parity) (back_clause : literals (integers_of r.clause) ≡ r.clause) (some : is_ending formula.constraints r.clause ≡ false) (room : length rows ≤ formula.variables)
+  module _ (r : ReasonOf) (x : Explains e.parities c.trail r) (some : is_ending formula.constraints r.clause ≡ false) (room : length rows ≤ formula.variables)
       (events : List LogEvent) (seen : List (List Literal)) (same : seen ≡ rows) (are_ : events ≡ row_events (length formula.constraints + 1) (integers_of r.parity) r.sources (first_row_id c.next + length seen) (integers_of r.clause)) where
     are : events ≡ row_events (length formula.constraints + 1) (integers_of r.parity) r.sources (first_row_id c.next + length rows) (integers_of r.clause)
     are = subst (λ xs. events ≡ row_events (length formula.constraints + 1) (integers_of r.parity) r.sources (first_row_id c.next + length xs) (integers_of r.clause)) same are_
 
     pub stands_then : (new : Option (List LogEvent)) → new ≡ with_events events old → SearchStands formula c e (rows ++ r.clause ∷ []) new
     stands_then new is = subst (SearchStands formula c e (rows ++ r.clause ∷ [])) (sym (is ∙ ap (λ es. with_events es old) are))
-        (stands_still formula c e rows st.0 st.1 st.3 r x back_parity back_clause some room old st.2 st.4)
+        (stands_still formula c e rows st.0 st.1 st.3 r x some room old st.2 st.4)

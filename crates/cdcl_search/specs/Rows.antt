@@ -2,10 +2,9 @@
 use Rattle.std.specs.Prelude.{◌≡◌, ℕ, ◌+◌, ◌≤◌, ℤ, List, [], ◌∷◌, length}
 use Rattle.cx_base.specs.Literals.{Literal}
 use Rattle.cx_base.specs.declared.constraint.Constraint.{Constraint}
-use Rattle.cx_base.specs.Integers.{integers_of, literals}
+use Rattle.cx_base.specs.Integers.{integers_of}
 use Rattle.cx_base.specs.declared.steps.LogEvent.{LogEvent}
 use Rattle.cx_base.specs.declared.steps.LogEvent.TheVariants.{Step}
-use Rattle.cx_base.specs.declared.steps.LogStep.{LogStep}
 use Rattle.cx_base.specs.declared.steps.LogStep.TheVariants.{Parity, ClauseOfParity}
 use Rattle.xor_reason.specs.declared.reason.ReasonOf.{ReasonOf}
 use Rattle.search_steps.specs.LogSteps.{row_events}
@@ -29,14 +28,8 @@ pub record AreNextIds (constraints next rows : ℕ) (ids : RowIds) : Type 0 wher
 abbrev pub sum_and_clause_events : ℕ → List ℤ → List ℕ → ℕ → List ℤ → List LogEvent
 sum_and_clause_events k parity sources n clause = Step (Parity k parity sources) ∷ Step (ClauseOfParity n clause k) ∷ []
 
--- the steps of these events; the integers of the row's parity and of its clause stand for their literals
-pub record AreRowSteps (events : List LogEvent) (parity_lits clause_lits : List Literal) (steps : List LogStep) : Type 0 where
-  pub are : AreStepsOf events steps
-  pub parity : literals (integers_of parity_lits) ≡ parity_lits
-  pub clause : literals (integers_of clause_lits) ≡ clause_lits
-
 -- the steps of the next row and its clause, twice
 pub record IsPrepared (constraints next rows : ℕ) (reason : ReasonOf) (p : Prepared) : Type 0 where
-  pub row : AreRowSteps (row_events (constraints + 1) (integers_of reason.parity) reason.sources (first_row_id next + rows) (integers_of reason.clause)) reason.parity reason.clause p.steps.items
+  pub row : AreStepsOf (row_events (constraints + 1) (integers_of reason.parity) reason.sources (first_row_id next + rows) (integers_of reason.clause)) p.steps.items
   pub clause : p.clause ≡ reason.clause
   pub copy : p.copy ≡ reason.clause

@@ -1,14 +1,17 @@
 //! Rows as the log tells them.
-ghost use Rattle.std.specs.Prelude.{◌≡◌, ℕ, ◌≤◌, [], ◌∷◌, ◌++◌, length, IfOk, OnOk, OnErr, IsFalse};
+ghost use Rattle.std.specs.Prelude.{◌≡◌, ◌≢◌, ℕ, ◌≤◌, [], ◌∷◌, ◌++◌, length, None, IfOk, IfSome, OnOk, OnErr, IsFalse};
 ghost use Rattle.std.specs.List.{AllByRecursion};
 ghost use Rattle.cx_base.specs.Assumptions.{is_ending};
 ghost use Rattle.cx_base.specs.Integers.{integers_of};
+ghost use Rattle.cx_base.specs.declared.steps.LogEvent.TheVariants.{Step};
+ghost use Rattle.cx_base.specs.declared.steps.LogStep.TheVariants.{ClauseOfParity};
+ghost use Rattle.search_steps.specs.LogSteps.{row_events};
 ghost use Rattle.parity_engine.specs.Written.{AreRising};
 ghost use Rattle.cdcl_search.specs.Calls.{StandsOn};
 ghost use Rattle.cdcl_search.specs.Explaining.{Explains};
 ghost use Rattle.cdcl_search.specs.Logs.{HasNotFailed, Stands};
-ghost use Rattle.cdcl_search.specs.Rows.{AreFew, AreNextIds, AreRowSteps, IsPrepared, sum_and_clause_events};
-ghost use Rattle.cdcl_search.specs.Tells.{IsId};
+ghost use Rattle.cdcl_search.specs.Rows.{AreFew, AreNextIds, IsPrepared, sum_and_clause_events};
+ghost use Rattle.cdcl_search.specs.Tells.{AreStepsOf, IsId};
 ghost use Rattle.cdcl_search.specs.Ties.{first_row_id};
 
 use crate::integers::integers;
@@ -52,7 +55,7 @@ pub fn next_ids(formula: &Formula, next: u64, rows: &[LitList]) -> RowIds
     }
 }
 
-/// The steps of a row: its sum and its clause.
+/// The steps of a row of more sources than one, or of none: its sum and its clause.
 fn sum_and_clause(
     alloc: Global,
     ids: RowIds,
@@ -62,7 +65,7 @@ fn sum_and_clause(
 ) -> Result<Vec<LogStep>, AllocError>
     requires proper { IsId ids.sum × IsId ids.clause }
     requires sources { AllByRecursion IsId sources }
-    ensures { IfOk result (λ s. AreRowSteps (sum_and_clause_events ids.sum (integers_of parity.now) sources ids.clause (integers_of clause.now)) parity.now clause.now s.items) }
+    ensures { IfOk result (λ s. AreStepsOf (sum_and_clause_events ids.sum (integers_of parity.now) sources ids.clause (integers_of clause.now)) s.items) }
 {
     let parity = integers(alloc, parity.as_slice())?;
     let clause = integers(alloc, clause.as_slice())?;
@@ -70,6 +73,55 @@ fn sum_and_clause(
     steps.push_reserved(sum(ids.sum, parity, sources));
     steps.push_reserved(clause_of_sum(ids.clause, clause, ids.sum));
     Ok(steps)
+}
+
+/// The step of a row of one source: its clause.
+fn clause_of_source(
+    alloc: Global,
+    id: u64,
+    clause: &LitList,
+    source: u64,
+) -> Result<Vec<LogStep>, AllocError>
+    requires proper { IsId id × IsId source }
+    ensures { IfOk result (λ s. AreStepsOf (Step (ClauseOfParity id (integers_of clause.now) source) ∷ []) s.items) }
+{
+    let clause = integers(alloc, clause.as_slice())?;
+    let mut steps = Vec::with_capacity(alloc, 1)?;
+    steps.push_reserved(clause_of_sum(id, clause, source));
+    Ok(steps)
+}
+
+/// The one source of a row, where it has just one.
+fn only_source(sources: &[u64]) -> Option<u64>
+    ensures some { IfSome result (λ source. sources.now ≡ source ∷ []) }
+    ensures none { result ≡ None → length sources.now ≢ 1 }
+{
+    match sources {
+        [source] => Some(*source),
+        _ => None,
+    }
+}
+
+/// The steps of a row: its clause, from its one source; or its sum, its clause, and the sum's deletion.
+fn row_steps(
+    alloc: Global,
+    ids: RowIds,
+    parity: &LitList,
+    sources: IdList,
+    clause: &LitList,
+) -> Result<Vec<LogStep>, AllocError>
+    requires proper { IsId ids.sum × IsId ids.clause }
+    requires sources { AllByRecursion IsId sources }
+    ensures { IfOk result (λ s. AreStepsOf (row_events ids.sum (integers_of parity.now) sources ids.clause (integers_of clause.now)) s.items) }
+{
+    match only_source(sources.as_slice()) {
+        Some(source) => clause_of_source(alloc, ids.clause, clause, source),
+        None => {
+            let mut steps = sum_and_clause(alloc, ids, parity, sources, clause)?;
+            steps.push(deletion_of_sum(alloc, ids.sum))?;
+            Ok(steps)
+        }
+    }
 }
 
 /// A copy of these literals.
@@ -87,7 +139,7 @@ struct Prepared {
     copy: LitList,
 }
 
-/// Makes ready for the telling of the next row: its sum, its clause, and the sum's deletion.
+/// Makes ready for the telling of the next row.
 fn prepare(
     alloc: Global,
     formula: &Formula,
@@ -107,8 +159,7 @@ fn prepare(
         clause,
     } = reason;
     let copy = copy_of(alloc, clause.as_slice())?;
-    let mut steps = sum_and_clause(alloc, ids, &parity, sources, &clause)?;
-    steps.push(deletion_of_sum(alloc, ids.sum))?;
+    let steps = row_steps(alloc, ids, &parity, sources, &clause)?;
     Ok(Prepared {
         steps,
         clause,

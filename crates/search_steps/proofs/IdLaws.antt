@@ -16,13 +16,14 @@ use Rattle.cx_semantics.specs.Tables.{Table, get}
 use Rattle.cx_semantics.proofs.Lookups.{Looks-insert, Looks-remove}
 use Rattle.search_steps.specs.Trail.{Entry, rests_on, decided, by_clause, by_row, back_to, level_of}
 use Rattle.search_steps.specs.Search.{Search, IsSearchIn, IsServed, IsLearnedOf, told, marked, decided_on, forced_on, jumped}
-use Rattle.search_steps.specs.LogSteps.{IsNoReason, IsAddition, AreTemporary, row_events, all_told, deleted, after_learned, after_round}
+use Rattle.search_steps.specs.LogSteps.{IsNoReason, IsAddition, AreTemporary, row_events, sum_events, all_told, deleted, after_learned, after_round}
 use Rattle.search_steps.specs.Start.{IsBegun}
 use Rattle.search_steps.specs.Hints.{AreHintsFor}
 use Rattle.search_steps.specs.Ids.{ReasonsBelow, AreRowIds, IsRanged, HasFreeSums}
 use Rattle.conflict_learn.proofs.ChainOfResolutions.{by_cases}
 use Rattle.search_steps.specs.Covers.{IsCover, IsSpared, CoversNone, rows_in}
 use Rattle.search_steps.proofs.CoverLaws.{not_before, not_in_parts, not_in_both, spared_where_none}
+use Rattle.search_steps.proofs.RowReasons.{row_cases}
 use Rattle.search_steps.proofs.Rounds.{round_keeps, round_clears_old, round_clears_new}
 
 -- ---- ids of the two ranges differ
@@ -246,17 +247,21 @@ module _ (formula : Problem) (bound next row_next : ℕ) where
   deletions_ranged s [] i = i
   deletions_ranged s (n ∷ ids) i = deletions_ranged (told s (Step (Delete n []))) ids (deletion_ranged s i n [])
 
-  -- the three steps of a row's reason
+  -- the steps of a row's reason
   pub row_reason_ranged : (s : Search) (k : ℕ) (rs : List ℤ) (ids : List ℕ) (n : ℕ) (zs : List ℤ) → bound ≤ n → row_next ≤ n → IsRanged formula bound next row_next s.trail s.moment
       → IsRanged formula bound next (n + 1) s.trail (all_told s (row_events k rs ids n zs)).moment
   row_reason_ranged s k rs ids n zs low next_low i =
       let s1 = told s (Step (Parity k rs ids)) in
       let r : IsRanged formula bound next (n + 1) s.trail (told s1 (Step (ClauseOfParity n zs k))).moment = row_clause_ranged s1 (sum_ranged s i k rs ids) n zs k low next_low in
-      record { originals = r.originals; room = r.room; reasons = r.reasons; learned = r.learned; new_rows = r.new_rows; old_rows = r.old_rows; free = r.free; rows_free = r.rows_free }
+      row_cases (λ es. IsRanged formula bound next (n + 1) s.trail (all_told s es).moment) k rs ids n zs (λ source is. row_clause_ranged s i n zs source low next_low)
+      (record { originals = r.originals; room = r.room; reasons = r.reasons; learned = r.learned; new_rows = r.new_rows; old_rows = r.old_rows; free = r.free; rows_free = r.rows_free })
 
--- the sum's id is free again after them
+-- a sum's id is free again after its deletion
+pub summed_frees_sum : (count : ℕ) (s : Search) (k : ℕ) (rs : List ℤ) (ids : List ℕ) (n : ℕ) (zs : List ℤ) → HasFreeSums count s.moment → HasFreeSums count (all_told s (sum_events k rs ids n zs)).moment
+summed_frees_sum count s k rs ids n zs f m h = get_gone (told s (Step (Parity k rs ids))).moment.tables.parities k m (λ apart. get_other s.moment.tables.parities k m _ apart (f m h))
+
 pub row_reason_frees_sum : (count : ℕ) (s : Search) (k : ℕ) (rs : List ℤ) (ids : List ℕ) (n : ℕ) (zs : List ℤ) → HasFreeSums count s.moment → HasFreeSums count (all_told s (row_events k rs ids n zs)).moment
-row_reason_frees_sum count s k rs ids n zs f m h = get_gone (told s (Step (Parity k rs ids))).moment.tables.parities k m (λ apart. get_other s.moment.tables.parities k m _ apart (f m h))
+row_reason_frees_sum count s k rs ids n zs f = row_cases (λ es. HasFreeSums count (all_told s es).moment) k rs ids n zs (λ source is. f) (summed_frees_sum count s k rs ids n zs f)
 
 -- ---- a whole conflict
 module _ (formula : Problem) (bound next row_next : ℕ) (s : Search) (i : IsRanged formula bound next row_next s.trail s.moment) (n : ℕ) (zs hints : List ℤ) (back : ℕ) (low : next ≤ n) (high : n < bound) where

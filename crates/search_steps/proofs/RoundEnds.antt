@@ -11,7 +11,7 @@ use Rattle.search_steps.specs.LogSteps.{IsRowReason, row_events, all_told, delet
 use Rattle.search_steps.specs.Tied.{IsTied}
 use Rattle.search_steps.proofs.TrailLaws.{back_level}
 use Rattle.search_steps.proofs.Rounds.{deleted_trail, deleted_awaits, deleted_old_sums, deleted_new_sums, round_clears_old, round_clears_new, unassigned_then}
-use Rattle.search_steps.proofs.RowReasons.{row_reason_sums, row_reason_old_sums}
+use Rattle.search_steps.proofs.RowReasons.{row_cases, sum_leaves_none, sum_leaves_no_old}
 use Rattle.search_steps.proofs.CodeSteps.{tied_back}
 use Rattle.search_steps.proofs.Bridge.{unassigned_is_open}
 
@@ -57,7 +57,6 @@ module _ {tidies : Bool} (formula : Problem) (parities : List (List Literal)) (s
 -- the reason of a row leaves the search before a mark as it was
 pub row_reason_serves : (formula : Problem) (parities : List (List Literal)) (s : Search) (k : ℕ) (rs : List ℤ) (ids : List ℕ) (n : ℕ) (zs : List ℤ) → IsRowReason formula parities s k rs ids n zs
     → IsServed s → s.moment.new_sums ≡ [] → IsServed (all_told s (row_events k rs ids n zs)) × ((all_told s (row_events k rs ids n zs)).moment.new_sums ≡ [])
-row_reason_serves formula parities s k rs ids n zs r served none = (
-  record { served = served.served; no_old_clauses = served.no_old_clauses; no_old_sums = row_reason_old_sums formula parities s k rs ids n zs r served.no_old_sums },
-  row_reason_sums formula parities s k rs ids n zs r none,
-)
+row_reason_serves formula parities s k rs ids n zs r served none = row_cases (λ es. IsServed (all_told s es) × ((all_told s es).moment.new_sums ≡ [])) k rs ids n zs
+    (λ source is. (record { served = served.served; no_old_clauses = served.no_old_clauses; no_old_sums = served.no_old_sums }, none))
+    (record { served = served.served; no_old_clauses = served.no_old_clauses; no_old_sums = sum_leaves_no_old s k rs ids n zs served.no_old_sums }, sum_leaves_none s k rs ids n zs none)

@@ -9,11 +9,11 @@ use Rattle.cx_base.specs.declared.constraint.Constraint.TheVariants as constrain
 use Rattle.cx_base.specs.declared.steps.LogEvent.{LogEvent}
 use Rattle.cx_base.specs.declared.steps.LogEvent.TheVariants.{Step, Conflict}
 use Rattle.cx_base.specs.declared.steps.LogStep.{LogStep}
-use Rattle.cx_base.specs.declared.steps.LogStep.TheVariants.{ClauseWithHints, Delete}
+use Rattle.cx_base.specs.declared.steps.LogStep.TheVariants.{ClauseWithHints, ClauseOfParity, Delete}
 use Rattle.cx_semantics.specs.Marked.{original_events}
 use Rattle.search_steps.specs.Search.{Search, told}
-use Rattle.search_steps.specs.LogSteps.{all_told, deleted, after_learned, after_round}
-use Rattle.search_steps.specs.Size.{additions, adds, is_addition}
+use Rattle.search_steps.specs.LogSteps.{row_events, sum_events, all_told, deleted, after_learned, after_round}
+use Rattle.search_steps.specs.Size.{additions, adds, is_addition, row_additions}
 use Rattle.search_steps.specs.TidySteps.{steps_told}
 use Rattle.search_steps.proofs.Rounds.{deleted_conflicts}
 
@@ -28,6 +28,17 @@ told_adds s (event ∷ events) =
     let first = additions_join s.events (event ∷ []) in
     let both = additions_join (event ∷ []) events in
     omega (arith, rest, first, both)
+
+-- the reason of a row
+pub row_reason_adds : (s : Search) (k : ℕ) (rs : List ℤ) (ids : List ℕ) (n : ℕ) (zs : List ℤ) → additions (all_told s (row_events k rs ids n zs)).events ≡ additions s.events + row_additions ids
+row_reason_adds s k rs [] n zs = told_adds s (sum_events k rs [] n zs)
+row_reason_adds s k rs (source ∷ []) n zs = told_adds s (Step (ClauseOfParity n zs source) ∷ [])
+row_reason_adds s k rs (source ∷ other ∷ ids) n zs = told_adds s (sum_events k rs (source ∷ other ∷ ids) n zs)
+
+pub row_adds_few : (ids : List ℕ) → row_additions ids ≤ 2
+row_adds_few [] = omega arith
+row_adds_few (source ∷ []) = omega arith
+row_adds_few (source ∷ other ∷ ids) = omega arith
 
 -- deletions add nothing
 pub deletions_add_none : (s : Search) (ids : List ℕ) → additions (deleted s ids).events ≡ additions s.events

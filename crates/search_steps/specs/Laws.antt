@@ -46,7 +46,7 @@ use Rattle.tidy_rules.specs.Runs.{KeepsFree, NoneDeletes, RunsTidily, EndsTidily
 use Rattle.search_steps.specs.Covers.{IsCover, IsSpared, rows_in}
 use Rattle.search_steps.specs.TidySteps.{IsAtStart, SpareReasons, IsEndedTidily, steps_told}
 use Rattle.search_steps.specs.TidyLines.{TidiedInTime, LineFits, marks_in, tidy_lines_in}
-use Rattle.search_steps.specs.Size.{additions}
+use Rattle.search_steps.specs.Size.{additions, row_additions}
 use Rattle.search_steps.specs.Trail.{Entry, by_clause, by_row, rests_on, held, all_held, back_to, level_of, IsUnassigned, Forces}
 
 -- a law of each search that holds, one that tidies or one that does not
@@ -131,7 +131,7 @@ abbrev pub JumpsStayTied : Type 0
 JumpsStayTied = (k : ℕ) (es : List Entry) (old new : TrailState) → TakesBack k old new → IsTied es old.entries → IsTied (back_to k es) new.entries
 
 -- ---- what is told
--- the three steps of the reason that a row gave keep the search
+-- the steps of the reason that a row gave keep the search
 abbrev pub RowReasonsKeep : Type 0
 RowReasonsKeep =
     (tidies : Bool) (formula : Problem) (parities : List (List Literal)) (s : Search) (k : ℕ) (rs : List ℤ) (ids : List ℕ) (n : ℕ) (zs : List ℤ) → IsRowReason formula parities s k rs ids n zs
@@ -468,10 +468,10 @@ SumsAreFreeAgain =
     (count : ℕ) (s : Search) (k : ℕ) (rs : List ℤ) (ids : List ℕ) (n : ℕ) (zs : List ℤ) → HasFreeSums count s.moment → HasFreeSums count (all_told s (row_events k rs ids n zs)).moment
 
 -- ---- the length of a log
--- the reason of a row adds a sum and a clause, deletions add nothing, and a counted conflict adds its clause
+-- the reason of a row adds its clause, and a sum unless it has one source; deletions add nothing, and a counted conflict adds its clause
 abbrev pub StepsAddFew : Type 0
 StepsAddFew = (s : Search) →
-    ((k : ℕ) (rs : List ℤ) (ids : List ℕ) (n : ℕ) (zs : List ℤ) → additions (all_told s (row_events k rs ids n zs)).events ≡ additions s.events + 2)
+    ((k : ℕ) (rs : List ℤ) (ids : List ℕ) (n : ℕ) (zs : List ℤ) → additions (all_told s (row_events k rs ids n zs)).events ≡ additions s.events + row_additions ids)
     × ((ids : List ℕ) → additions (deleted s ids).events ≡ additions s.events)
     × ((n : ℕ) (zs hints : List ℤ) (back : ℕ) (l : Literal) → additions (after_round s n zs hints back l).events ≡ additions s.events + 1)
 

@@ -44,9 +44,14 @@ pub record IsClauseOfRow (n : ℕ) (row clause : List Literal) : Type 0 where
   pub one_of_each : HasOneOfEach (normal_form row).variables clause
   pub implied : Implies (λ values. parity_met values row) (λ values. clause_met values clause)
 
--- the three steps for the reason that a row gave: its sum, its clause, and the sum's deletion
+-- the three steps for the clause of a sum: the sum, its clause, and the sum's deletion
+abbrev pub sum_events : ℕ → List ℤ → List ℕ → ℕ → List ℤ → List LogEvent
+sum_events k rs ids n zs = Step (Parity k rs ids) ∷ Step (ClauseOfParity n zs k) ∷ Step (DeleteParity k []) ∷ []
+
+-- the steps for the reason that a row gave: its clause, from its one source or from the sum of its sources
 abbrev pub row_events : ℕ → List ℤ → List ℕ → ℕ → List ℤ → List LogEvent
-row_events k rs ids n zs = Step (Parity k rs ids) ∷ Step (ClauseOfParity n zs k) ∷ Step (DeleteParity k []) ∷ []
+row_events k rs (source ∷ []) n zs = Step (ClauseOfParity n zs source) ∷ []
+row_events k rs ids n zs = sum_events k rs ids n zs
 
 abbrev pub all_told : Search → List LogEvent → Search
 all_told s [] = s

@@ -1,5 +1,5 @@
 -- How many clauses and parities a log adds.
-use Rattle.std.specs.Prelude.{ℕ, ◌+◌, ◌*◌, ◌≤◌, Bool, true, false, List, filter, length}
+use Rattle.std.specs.Prelude.{ℕ, ◌+◌, ◌*◌, ◌≤◌, Bool, true, false, List, [], ◌∷◌, filter, length}
 use Rattle.cx_base.specs.Problem.{Problem}
 use Rattle.cx_base.specs.declared.steps.LogEvent.{LogEvent}
 use Rattle.cx_base.specs.declared.steps.LogEvent.TheVariants.{Step, Conflict}
@@ -31,6 +31,11 @@ is_addition (Conflict k) = false
 abbrev pub additions : List LogEvent → ℕ
 additions events = length (filter is_addition events)
 
+-- how many the reason of a row with these sources adds: its clause, and a sum unless it has one source
+abbrev pub row_additions : List ℕ → ℕ
+row_additions (source ∷ []) = 1
+row_additions ids = 2
+
 -- so many at most are in a log with this many marks
 abbrev pub most_additions : Problem → ℕ → ℕ
 most_additions formula marks = 4 * length formula.constraints + 7 * formula.variables + 9 + 2 * (formula.variables * marks) + 5 * marks
@@ -38,6 +43,6 @@ most_additions formula marks = 4 * length formula.constraints + 7 * formula.vari
 abbrev pub IsBounded : Problem → ℕ → List LogEvent → Type 0
 IsBounded formula marks events = additions events ≤ most_additions formula marks
 
--- A clause for good takes the next id, and had at most one row told for it alone; for a mark at most one row more than variables was told; the others are the rows since the last mark. Of each row two were added.
+-- A clause for good takes the next id, and had at most one row told for it alone; for a mark at most one row more than variables was told; the others are the rows since the last mark. Of each row at most two were added.
 abbrev pub HasFewAdditions : Problem → ℕ → ℕ → ℕ → Search → Type 0
 HasFewAdditions formula next first rows s = additions s.events ≤ length formula.constraints + next + 2 * first + 2 * rows + 2 * (formula.variables * s.conflicts) + 2 * s.conflicts

@@ -61,7 +61,7 @@ pub fn jumps_stay_tied()
     ensures { JumpsStayTied }
 {}
 
-/// The three steps of the reason that a row gave keep the search.
+/// The steps of the reason that a row gave keep the search.
 pub fn row_reasons_keep()
     ensures { RowReasonsKeep }
 {}

@@ -11,13 +11,13 @@ use Rattle.cdcl_search.proofs.rows.tell_reason.Goals as goal
 pub tell_steps-requires-clause-right : goal.tell_steps-requires-clause-right
 tell_steps-requires-clause-right g c = left_now c.args.log.now.formula.now c.args.state.now (g.P.ParityEngine.state c.args.engine.now) _ _
     (stands_then c.args.log.now.formula.now c.args.state.now (g.P.ParityEngine.state c.args.engine.now) c.args.rows.now.items (g.L.Sink.items c.args.log.now.sink.now) c.requires.stands
-    c.args.reason c.requires.explains c.in_ok-prepared.ensures.row.parity c.in_ok-prepared.ensures.row.clause c.requires.goes_on c.requires.room (as_events c.in_ok-prepared.prepared.steps.items) c.deref.result.now c.deref.ensures.value c.in_ok-prepared.ensures.row.are.are _ refl)
+    c.args.reason c.requires.explains c.requires.goes_on c.requires.room (as_events c.in_ok-prepared.prepared.steps.items) c.deref.result.now c.deref.ensures.value c.in_ok-prepared.ensures.row.are _ refl)
 
 pub returns-clause-stands_on : goal.returns-clause-stands_on
 returns-clause-stands_on g c =
     let stands = holds_told (λ formula told. SearchStands formula c.args.state.now (g.P.ParityEngine.state c.args.engine.now) (c.args.rows.now.items ++ c.args.reason.clause ∷ []) told) (as_events c.in_ok-prepared.prepared.steps.items) g.L.Sink c.args.log.now _ c.tell_steps.new.log c.tell_steps.ensures.log c.in_ok-tell_steps.ensures.told
     (stands_then c.args.log.now.formula.now c.args.state.now (g.P.ParityEngine.state c.args.engine.now) c.args.rows.now.items (g.L.Sink.items c.args.log.now.sink.now) c.requires.stands
-    c.args.reason c.requires.explains c.in_ok-prepared.ensures.row.parity c.in_ok-prepared.ensures.row.clause c.requires.goes_on c.requires.room (as_events c.in_ok-prepared.prepared.steps.items) c.deref.result.now c.deref.ensures.value c.in_ok-prepared.ensures.row.are.are _ refl) in
+    c.args.reason c.requires.explains c.requires.goes_on c.requires.room (as_events c.in_ok-prepared.prepared.steps.items) c.deref.result.now c.deref.ensures.value c.in_ok-prepared.ensures.row.are _ refl) in
     record { stands = stands; log = c.in_ok-tell_steps.ensures.log }
 
 pub prepare-requires-clause-few : goal.prepare-requires-clause-few
@@ -34,7 +34,7 @@ pub prepare-requires-clause-sources : goal.prepare-requires-clause-sources
 prepare-requires-clause-sources g c = (length (g.P.ParityEngine.state c.args.engine.now).parities, c.requires.stands.3.engine.few, c.requires.explains.numbers)
 
 pub tell_steps-requires-clause-texts : goal.tell_steps-requires-clause-texts
-tell_steps-requires-clause-texts g c = c.in_ok-prepared.ensures.row.are.texts
+tell_steps-requires-clause-texts g c = c.in_ok-prepared.ensures.row.texts
 
 pub returns-clause-clause : goal.returns-clause-clause
 returns-clause-clause g c = c.in_ok-prepared.ensures.clause
