@@ -8,11 +8,10 @@ use Rattle.cx_base.specs.Integers.{integers_of}
 use Rattle.cx_semantics.specs.Marked.{Marked, mark_of}
 use Rattle.conflict_learn.specs.declared.fault.CoreFault.{CoreFault}
 use Rattle.parity_engine.specs.State.{State}
-use Rattle.search_steps.specs.Search.{Search, IsSearch}
+use Rattle.search_steps.specs.Search.{Search, IsSearchIn}
 use Rattle.search_steps.specs.LogSteps.{after_round}
 use Rattle.search_steps.specs.Holding.{AreTold}
 use Rattle.search_steps.specs.Recovering.{SettledWithRecovered}
-use Rattle.search_steps.specs.Size.{IsBounded}
 use Rattle.search_steps.proofs.EndLaws.{is_marked, is_log_open}
 use Rattle.cdcl_search.specs.declared.state.SearchState.{SearchState}
 use Rattle.std.specs.Prelude.{IfErr}
@@ -26,23 +25,23 @@ use Rattle.cdcl_search.specs.Tells.{IsLeft, GivesUp, HaveLowIds, HasNoMark}
 use Rattle.cdcl_search.specs.Ties.{SearchStands}
 use Rattle.cdcl_core.specs.declared.solving.SearchOutcome.TheVariants.{Sat, Unsat, Unknown}
 use Rattle.cdcl_core.specs.Learning.{Learns}
-use Rattle.cdcl_core.specs.Results.{IsOpenWith, IsFresh, Refutes}
+use Rattle.cdcl_core.specs.Results.{IsOpenWith, IsBoundedIn, IsFresh, RefutesIn}
 use Rattle.cdcl_core.proofs.OriginalLaws.{left_by}
 use Rattle.cdcl_core.proofs.FewAdditions.{search_is_bounded, learned_is_bounded}
 use Rattle.cdcl_core.proofs.Entering.{round_is_search, conflicts_then, tidy}
 
 -- ---- open logs
-search_is_open : (formula : Problem) (parities : List (List Literal)) (s : Search) (n : ℕ) (told : Option (List LogEvent)) → IsSearch formula parities s → s.moment.awaits ≡ false → s.conflicts ≡ n → IsBounded formula n s.events → AreTold told s.events → IsOpenWith formula n told
-search_is_open formula parities s n None ok served count few a = tt
-search_is_open formula parities s n (Some es) ok served count few a = subst (λ xs. IsOpenWith formula n (Some xs)) (sym a)
+search_is_open : {tidies : Bool} (formula : Problem) (parities : List (List Literal)) (s : Search) (n : ℕ) (told : Option (List LogEvent)) → IsSearchIn tidies formula parities s → s.moment.awaits ≡ false → s.conflicts ≡ n → IsBoundedIn tidies formula n s.events → AreTold told s.events → IsOpenWith tidies formula n told
+search_is_open {tidies} formula parities s n None ok served count few a = tt
+search_is_open {tidies} formula parities s n (Some es) ok served count few a = subst (λ xs. IsOpenWith tidies formula n (Some xs)) (sym a)
     (is_log_open formula parities s ok served, subst (Marked formula s.events) count (is_marked formula parities s ok served), ok.log.scheduled, ok.log.hinted, few)
 
 -- between two conflicts the log is open, with a mark for each counted one
-pub log_is_open : (formula : Problem) (c : SearchState) (e : State) (rows : List (List Literal)) (told : Option (List LogEvent)) → SearchStands formula c e rows told → IsOpenWith formula c.conflicts told
+pub log_is_open : (formula : Problem) (c : SearchState) (e : State) (rows : List (List Literal)) (told : Option (List LogEvent)) → SearchStands formula c e rows told → IsOpenWith c.tidies formula c.conflicts told
 log_is_open formula c e rows told (s, ok, a, t, f) = search_is_open formula e.parities s c.conflicts told ok t.log.served.served t.counts.marked (search_is_bounded formula c e rows s t) a
 
 -- after a learned clause it is open, with one mark more
-pub learned_log_is_open : (formula : Problem) (c : SearchState) (e : State) (lits : List Literal) (back : ℕ) (told : Option (List LogEvent)) → Learns formula c e lits back told → IsOpenWith formula (c.conflicts + 1) told
+pub learned_log_is_open : (formula : Problem) (c : SearchState) (e : State) (lits : List Literal) (back : ℕ) (told : Option (List LogEvent)) → Learns formula c e lits back told → IsOpenWith c.tidies formula (c.conflicts + 1) told
 learned_log_is_open formula c e lits back told l = search_is_open formula e.parities (after_round l.search c.next (integers_of lits) l.hints back l.taught.first) (c.conflicts + 1) told
     (round_is_search formula c e lits back l.search l.taught l.hints l.right) (tidy formula c e lits back l.search l.taught l.hints).served (conflicts_then formula c e lits back l.search l.taught l.hints) (learned_is_bounded formula c e lits back l.search l.taught l.hints) l.told_is
 
@@ -54,7 +53,7 @@ pub unsat_is_known : (failed : List Literal) (n : ℕ) → Unsat failed ≡ Unkn
 unsat_is_known failed n is = cc
 
 -- fewer marks than one number are fewer than a greater one
-pub refutes_within : (formula : Problem) (n budget : ℕ) (told : Option (List LogEvent)) (failed : List Literal) → n ≤ budget → Refutes formula n told failed → Refutes formula budget told failed
+pub refutes_within : {tidies : Bool} (formula : Problem) (n budget : ℕ) (told : Option (List LogEvent)) (failed : List Literal) → n ≤ budget → RefutesIn tidies formula n told failed → RefutesIn tidies formula budget told failed
 refutes_within formula n budget None failed few r = record { unmet = r.unmet; fails = r.fails; clash = r.clash; log = tt }
 refutes_within formula n budget (Some events) failed few r = let less = r.log.1.1 in record { unmet = r.unmet; fails = r.fails; clash = r.clash; log = (r.log.0, (r.log.1.0, omega (arith, less, few), r.log.1.2, r.log.1.3), r.log.2, r.log.3) }
 

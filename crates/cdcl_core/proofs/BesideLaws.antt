@@ -326,7 +326,7 @@ module _ (formula : Problem) (c : SearchState) (e : State) (rows : List (List Li
     all_there : AllByRecursion (IsLiveOr table r.clause) (f.0 ++ last ∷ [])
     all_there = all_live_or table c.trail (IsHeldBeside c rows first) r.clause (λ d i held. live_or table r.clause d i (named_or first r.clause only d i held)) last k (reverse resolved) f.0 f.1
 
-    pub beside_ends : EndsLog formula c.conflicts told_ n.failed n.steps.items
+    pub beside_ends : EndsLog formula c told_ n.failed n.steps.items
     beside_ends = refuted_ends formula c e rows told_ st r x ends level (f.0 ++ last ∷ []) all_there (λ a. f.2 a refl) hints hinted n by
 
     pub beside_none : n.failed ≡ []
@@ -347,7 +347,7 @@ module _ (formula : Problem) (c : SearchState) (e : State) (rows : List (List Li
         free = next_is_free formula (first_row_id c.next) c.next (first_row_id c.next + length rows) st.0 st.3.log.ranged (omega arith);
         served = st.3.log.served.served;
         conflicts = st.3.counts.marked;
-        few_additions = let few = ties_add_few formula c e rows st.0 st.3 in omega (arith, few);
+        few_additions = λ plain. let few = ties_add_few formula c e rows st.0 st.3 plain in omega (arith, few);
       },
     ),
   )

@@ -14,6 +14,7 @@ use Rattle.cx_trail.specs.declared.entry.Reason.TheVariants as reason
 use Rattle.cx_trail.specs.Sequence.{TrailState, entry_at, IsTrail as IsCodeTrail, IsTrueIn, IsAssignedIn, IsOpenIn}
 use Rattle.cx_trail.specs.Renaming.{renamed, renamed_reason, clause_under}
 use Rattle.cx_semantics.specs.Chain.{is_inside}
+use Rattle.cx_semantics.specs.Marked.{is_among}
 use Rattle.clause_arena.specs.Clauses.{ArenaState, IsLive, literals_at, literals_in, id_at, id_in, learned_in}
 use Rattle.clause_arena.specs.Compact.{IsRenamed}
 use Rattle.clause_arena.proofs.PackingLaws.{live_within}
@@ -28,7 +29,7 @@ use Rattle.search_steps.specs.Tied.{IsTied}
 use Rattle.cx_semantics.specs.Tables.{Table}
 use Rattle.cdcl_search.specs.declared.state.SearchState.{SearchState}
 use Rattle.tidy_rules.specs.Tidied.{HasTwo}
-use Rattle.cdcl_search.specs.Ties.{Ties, SearchStands, IsClauseReasonOf, IsWatched, ClauseTies, IsKept, IsNamedBy, IsHeld, NeedsNoLearned, AreUnits, HasReasonOf, ReasonTies, AgreesUpTo}
+use Rattle.cdcl_search.specs.Ties.{Ties, SearchStands, IsClauseReasonOf, IsWatched, ClauseTies, AreLearned, IsKept, IsNamedBy, IsHeld, NeedsNoLearned, AreUnits, HasReasonOf, ReasonTies, AgreesUpTo}
 use Rattle.cdcl_core.specs.Compacting.{IsCompacted, StandsStill, LeavesNoOldName}
 
 -- ---- the trail
@@ -120,6 +121,12 @@ module _ (a b : ArenaState) (moves : List Move) (f : IsRenamed a b moves) where
       let one = apart v.0 w.0 x.0 y.0 (sym (ap id_in x.1) ∙ same ∙ ap id_in y.1) in
       some_same s t (sym v.1 ∙ ap (moved_to moves) one ∙ w.1)
 
+  learned_moved : (ids : List ℕ) → AreLearned a ids → AreLearned b ids
+  learned_moved ids all s live is =
+      let was = before s live in
+      let moved = clause_moved a b moves was.0 s f was.1 in
+      ap (λ o. is_among ids (id_in o)) moved.1 ∙ all was.0 moved.0 (ap learned_in (sym moved.1) ∙ is)
+
   clauses_moved : (formula : Problem) (table : Table) (next : ℕ) (fixed : List Literal) → ClauseTies formula table next a fixed → ClauseTies formula table next b fixed
   clauses_moved formula table next fixed t = record {
     stored = stored_moved formula table next t.stored;
@@ -180,6 +187,7 @@ module _ (formula : Problem) (c : SearchState) (e : State) (rows : List (List Li
   ties_moved t = record {
     log = t.log;
     clauses = clauses_moved c.arena b moves f formula s.moment.tables.clauses c.next _ t.clauses;
+    learned = learned_moved c.arena b moves f s.moment.learned t.learned;
     trail = record {
       follows = record { tied = tied_moved moves s.trail c.trail.entries t.trail.follows.tied; sound = sound };
       variables = t.trail.variables;

@@ -1,5 +1,5 @@
 -- The row of a contradiction explains a conflict, and what a conflict comes to.
-use Rattle.std.proofs.Common.{◌≡◌, sym, ap, ◌∙◌, subst, ℕ, ◌+◌, ◌≤◌, true, List, [], ◌∷◌, length, get_or, Option, None, arith, inl, inr, Some}
+use Rattle.std.proofs.Common.{◌≡◌, sym, ap, ◌∙◌, subst, ℕ, ◌+◌, ◌≤◌, true, false, List, [], ◌∷◌, length, get_or, Option, None, arith, inl, inr, Some}
 use Rattle.std.specs.List.{All, AllByRecursion}
 use Rattle.std.proofs.lemmas.Option.{same_Some}
 use Rattle.cx_base.specs.Literals.{Literal}
@@ -130,27 +130,27 @@ module _ (formula : Problem) (c : SearchState) (e : State) (told : Option (List 
         units_in : AllByRecursion (IsUnitIn formula.variables st.0.moment.tables.clauses) units
         units_in = told_units formula c e [] st.0 st.3 units by.shortened.told
 
-        ready : IsReadyToEnd formula theirs c.conflicts k (first_row_id c.next) st.0
-        ready = subst (λ m. IsReadyToEnd formula theirs c.conflicts k m st.0) (let z : first_row_id c.next + 0 ≡ first_row_id c.next = omega arith in z) (ready_to_end formula c e [] st.0 st.1 st.3)
+        ready : IsReadyToEnd c.tidies formula theirs c.conflicts k (first_row_id c.next) st.0
+        ready = subst (λ m. IsReadyToEnd c.tidies formula theirs c.conflicts k m st.0) (let z : first_row_id c.next + 0 ≡ first_row_id c.next = omega arith in z) (ready_to_end formula c e [] st.0 st.1 st.3)
 
         of_row : IsLeftOfRow formula theirs reason.sources units left
         of_row = is_left formula c e [] st.0 st.1 st.3 reason row_explains left units by.shortened.parts ends
 
-        few_then : additions st.0.events + length units + 2 ≤ most_additions formula c.conflicts
-        few_then =
-            let few = ties_add_few formula c e [] st.0 st.3 in
+        few_then : c.tidies ≡ false → additions st.0.events + length units + 2 ≤ most_additions formula c.conflicts
+        few_then plain =
+            let few = ties_add_few formula c e [] st.0 st.3 plain in
             let parts = parts_are_all reason.clause left units by.shortened.parts in
             let width = few_by formula c e [] st.0 st.1 st.3 reason row_explains in
             omega (arith, few, parts, width)
 
-        pub ends_log : EndsLog formula c.conflicts told n.failed n.steps.items
+        pub ends_log : EndsLog formula c told n.failed n.steps.items
         ends_log = record {
           texts = by.ends.steps.texts;
           unmet = left_is_unmet formula theirs c.conflicts k (first_row_id c.next) st.0 ready reason.sources units left of_row units_in;
           fails = subst (IsFailed formula) (sym by.ends.failed) (left_fails formula theirs c.conflicts k (first_row_id c.next) st.0 ready reason.sources units left of_row units_in);
           apart = st.1.log.apart;
-          log = subst (λ xs. IsEndedWith formula c.conflicts n.failed (with_events xs told)) (sym by.ends.steps.are)
-              (subst (λ failed. IsEndedWith formula c.conflicts failed (with_events (short_row_events k reason.sources units left (first_row_id c.next)) told)) (sym by.ends.failed)
+          log = subst (λ xs. IsEndedWith c.tidies formula c.conflicts n.failed (with_events xs told)) (sym by.ends.steps.are)
+              (subst (λ failed. IsEndedWith c.tidies formula c.conflicts failed (with_events (short_row_events k reason.sources units left (first_row_id c.next)) told)) (sym by.ends.failed)
               (left_ends formula theirs c.conflicts k (first_row_id c.next) st.0 ready reason.sources units left of_row units_in few_then told st.2));
         }
 

@@ -30,7 +30,7 @@ use Rattle.search_steps.proofs.Bridge.{entry_last}
 use Rattle.search_steps.proofs.SizeLaws.{round_adds_one, round_counts_one, one_mark_more}
 use Rattle.parity_engine.specs.State.{State}
 use Rattle.cdcl_search.specs.declared.state.SearchState.{SearchState}
-use Rattle.cdcl_search.specs.Ties.{first_row_id, IsNamedBy, ClauseTies, AreNumbered, AreUnits, IsFed, IsFallingFrom, HasReasonOf, HaveReasons, Ties}
+use Rattle.cdcl_search.specs.Ties.{first_row_id, IsNamedBy, ClauseTies, AreLearned, AreNumbered, AreUnits, IsFed, IsFallingFrom, HasReasonOf, HaveReasons, Ties}
 use Rattle.cdcl_core.specs.Entering.{IsPut, HasCounts}
 use Rattle.cdcl_core.specs.Learning.{IsTaught}
 use Rattle.cdcl_core.proofs.Entering.{tied_then, trail_is, ranged_then, parities_then, conflicts_then, learned_then, stretches_then, tidy, named_then, get_old}
@@ -151,9 +151,9 @@ module _ (formula : Problem) (c : SearchState) (e : State) (lits : List Literal)
           met = λ values agrees. has.met values (subst (λ es. (m : Literal) → IsTrueIn es m → IsTrue (literal_true values m)) (sym (same_take (suc i) (omega (arith, h)))) agrees);
         }
 
-  few_then : HasFewAdditions formula D.next (first_row_id D.next) 0 after
-  few_then =
-      let was = taught.ties.log.few_additions in
+  few_then : D.tidies ≡ false → HasFewAdditions formula D.next (first_row_id D.next) 0 after
+  few_then plain =
+      let was = taught.ties.log.few_additions (sym (put.tidies ∙ counts.tidies) ∙ plain) in
       let rows = taught.ties.log.few_rows in
       let one = round_adds_one s c.next (integers_of lits) hints back taught.first in
       let next = put.next in
@@ -162,9 +162,9 @@ module _ (formula : Problem) (c : SearchState) (e : State) (lits : List Literal)
       omega (arith, was, rows, one, next, mark, cost)
 
   -- the ties, but for what differs where the clause has one literal
-  pub ties_entered : ClauseTies formula after.moment.tables.clauses (c.next + 1) D.arena (held 0 after.trail) → AreUnits after.moment.tables.clauses (c.next + 1) D.trail after.trail D.units.items → HaveReasons D e1
+  pub ties_entered : ClauseTies formula after.moment.tables.clauses (c.next + 1) D.arena (held 0 after.trail) → AreLearned D.arena after.moment.learned → AreUnits after.moment.tables.clauses (c.next + 1) D.trail after.trail D.units.items → HaveReasons D e1
       → length c1.units.items ≤ length D.units.items → Ties formula D e1 [] after
-  ties_entered clauses units reasons more = record {
+  ties_entered clauses learned units reasons more = record {
     log = record {
       ranged = subst (λ n. IsRanged formula (first_row_id n) n (first_row_id n + 0) after.trail after.moment) (sym put.next)
           (subst (λ r. IsRanged formula (first_row_id (c.next + 1)) (c.next + 1) r after.trail after.moment) (let z : first_row_id (c.next + 1) ≡ first_row_id (c.next + 1) + 0 = omega arith in z) (ranged_then formula c e lits back s taught hints));
@@ -183,6 +183,7 @@ module _ (formula : Problem) (c : SearchState) (e : State) (lits : List Literal)
       };
     };
     clauses = subst (λ n. ClauseTies formula after.moment.tables.clauses n D.arena (held 0 after.trail)) (sym put.next) clauses;
+    learned = learned;
     trail = record {
       follows = follows_then;
       variables = ap (λ t. t.variables) trail_D ∙ t1.trail.variables;

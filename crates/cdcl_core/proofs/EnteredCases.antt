@@ -20,20 +20,22 @@ use Rattle.search_steps.specs.Search.{Search, jumped}
 use Rattle.search_steps.specs.LogSteps.{after_round}
 use Rattle.conflict_learn.proofs.ChainOfResolutions.{by_cases}
 use Rattle.parity_engine.specs.State.{State}
+use Rattle.cdcl_search.proofs.LearnedIds.{among_first, among_more}
 use Rattle.cdcl_search.proofs.UnitTies.{on_last}
 use Rattle.cdcl_search.proofs.Growing.{watched_grows}
 use Rattle.cx_semantics.proofs.Closure.{inside_itself}
 use Rattle.cx_semantics.proofs.Members.{has_at_head}
 use Rattle.std.specs.Prelude.{IsTrue, IsFalse}
 use Rattle.cdcl_search.specs.declared.state.SearchState.{SearchState}
-use Rattle.cdcl_search.specs.Ties.{IsNamedBy, AreUnits, RestOnUnits, HasReasonOf, HaveReasons, Ties}
+use Rattle.cx_semantics.specs.Marked.{is_among}
+use Rattle.cdcl_search.specs.Ties.{IsNamedBy, AreLearned, AreUnits, RestOnUnits, HasReasonOf, HaveReasons, Ties}
 use Rattle.cdcl_search.proofs.Places.{tied_length}
 use Rattle.tidy_rules.specs.Tidied.{HasTwo}
 use Rattle.tidy_rules.proofs.OneLaws.{not_two}
 use Rattle.cdcl_search.specs.Ties.{IsKept, IsClauseReasonOf, IsHeld, NeedsNoLearned, IsWatched}
 use Rattle.cdcl_core.specs.Entering.{EntersUnit, EntersClause, HasCounts}
 use Rattle.cdcl_core.specs.Learning.{IsTaught}
-use Rattle.cdcl_core.proofs.Entering.{trail_is, get_new, named_then, was}
+use Rattle.cdcl_core.proofs.Entering.{trail_is, get_new, learned_then, named_then, was}
 use Rattle.cdcl_core.proofs.Entered.{true_more, kept_at, new_at, old_or_new, length_D, same_entry, same_take, last_entry, place, level_D, reason_stays, ties_entered, unit_stays}
 
 id_front : (xs : List ℕ) (y i : ℕ) → i < length xs → get_or (xs ++ y ∷ []) i 0 ≡ get_or xs i 0
@@ -145,6 +147,17 @@ module _ (formula : Problem) (c : SearchState) (e : State) (lits : List Literal)
       ]
     ]
 
+    learned_one_more : AreLearned D.arena after.moment.learned
+    learned_one_more r live is = ap (λ ids. is_among ids (id_at D.arena r)) (learned_then formula c e lits back s taught hints) ∙ among
+      where
+        among : is_among (c.next ∷ s.moment.learned) (id_at D.arena r) ≡ true
+        among = elim (old_or_last r live) [
+          | inl old ↦
+              let same = clause_kept r old in
+              ap (λ o. is_among (c.next ∷ s.moment.learned) (id_in o)) same ∙ among_more s.moment.learned c.next (id_at c1.arena r) (t1.learned r old (ap learned_in (sym same) ∙ is))
+          | inr at ↦ ap (is_among (c.next ∷ s.moment.learned)) (ap (id_at D.arena) at ∙ last_id) ∙ among_first s.moment.learned c.next
+        ]
+
     pub clause_watched : IsWatched c1.watches c1.arena c1.trail → IsWatched D.watches D.arena D.trail
     clause_watched w = record {
       fits = enters.fits;
@@ -209,7 +222,7 @@ module _ (formula : Problem) (c : SearchState) (e : State) (lits : List Literal)
         ]
 
     pub clause_ties : HasTwo lits → AreOthersFalse c1.trail.entries lits l → Ties formula D e1 [] after
-    clause_ties two others = ties_entered formula c e lits back s taught hints c1 e1 t1 takes o stands D reason counts enters.put (record { stored = stored_then two; covered = covered_then; apart = apart_then; original = original_then }) units_then (reasons_then others) (let count = ap length enters.units in omega (arith, count))
+    clause_ties two others = ties_entered formula c e lits back s taught hints c1 e1 t1 takes o stands D reason counts enters.put (record { stored = stored_then two; covered = covered_then; apart = apart_then; original = original_then }) learned_one_more units_then (reasons_then others) (let count = ap length enters.units in omega (arith, count))
 
   -- ---- one literal
   module _ (one : length lits ≡ 1) (none_above : back ≡ 0) (all_units : length c1.units.items ≡ length c1.trail.entries)
@@ -323,9 +336,13 @@ module _ (formula : Problem) (c : SearchState) (e : State) (lits : List Literal)
           all = λ above i far h. absurd (let at = level_D formula c e lits back s taught hints c1 e1 t1 takes o stands D why.Decision counts enters.put in let z = none_above in omega (arith, above, at, z));
         }
 
+    unit_learned : AreLearned D.arena after.moment.learned
+    unit_learned = subst (λ a. AreLearned a after.moment.learned) (sym enters.arena) (λ r live is.
+        ap (λ ids. is_among ids (id_at c1.arena r)) (learned_then formula c e lits back s taught hints) ∙ among_more s.moment.learned c.next (id_at c1.arena r) (t1.learned r live is))
+
     pub unit_ties : Ties formula D e1 [] after
     unit_ties =
-        ties_entered formula c e lits back s taught hints c1 e1 t1 takes o stands D why.Decision counts enters.put (record { stored = unit_stored; covered = unit_covered; apart = unit_apart; original = unit_original }) unit_units
+        ties_entered formula c e lits back s taught hints c1 e1 t1 takes o stands D why.Decision counts enters.put (record { stored = unit_stored; covered = unit_covered; apart = unit_apart; original = unit_original }) unit_learned unit_units
         (λ i far h. absurd (let long = units_long in let trail_long = length_D formula c e lits back s taught hints c1 e1 t1 takes o stands D why.Decision counts enters.put in let a = all_units in omega (arith, far, h, long, trail_long, a)))
         (let long = units_long in omega (arith, long))
 

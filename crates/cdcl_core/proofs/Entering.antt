@@ -14,7 +14,7 @@ use Rattle.cx_trail.specs.Sequence.{TrailState, TakesBack, pushed, IsOpenIn}
 use Rattle.search_steps.specs.Hints.{AreHintsFor}
 use Rattle.search_steps.specs.Trail.{Entry, by_clause, back_to, level_of}
 use Rattle.search_steps.specs.Quiet.{IsOfParities}
-use Rattle.search_steps.specs.Search.{Search, IsSearch, IsServed as Served, IsTidy, IsLearnedOf, marked}
+use Rattle.search_steps.specs.Search.{Search, IsSearchIn, IsServed as Served, IsTidy, IsLearnedOf, marked}
 use Rattle.search_steps.specs.LogSteps.{IsAddition, AreTemporary, after_learned, after_round}
 use Rattle.search_steps.specs.Tied.{IsTied}
 use Rattle.search_steps.specs.Ids.{IsRanged}
@@ -77,7 +77,7 @@ module _ (formula : Problem) (c : SearchState) (e : State) (lits : List Literal)
   served : Served s
   served = record { served = taught.ties.log.served.served; no_old_clauses = taught.ties.log.served.old_clauses; no_old_sums = taught.ties.log.served.old_sums }
 
-  pub round_is_search : AreHintsFor s.moment.tables.clauses lits hints → IsSearch formula e.parities after
+  pub round_is_search : AreHintsFor s.moment.tables.clauses lits hints → IsSearchIn c.tidies formula e.parities after
   round_is_search right = ranged_round_keeps formula (first_row_id c.next) c.next (first_row_id c.next + length taught.rows) s taught.ties.log.ranged n zs hints back (omega arith) (omega arith) e.parities taught.search l served taught.ties.levels
       addition goes_on (subst (λ xs. AreHintsFor s.moment.tables.clauses xs hints) (sym taught.integers) right) learned
 

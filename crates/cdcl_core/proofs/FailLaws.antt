@@ -178,8 +178,8 @@ module _ (formula : Problem) (c : SearchState) (e : State) (rows : List (List Li
   added : IsAddition formula st.0.moment.tables.clauses c.next (integers_of left.lits)
   added = record { within = variables_are_within formula.variables left.lits within; free = next_is_free formula (first_row_id c.next) c.next (first_row_id c.next + length rows) st.0 st.3.log.ranged (omega arith) }
 
-  pub left_is_told : IsEndedWith formula c.conflicts (negations left.lits) (with_events (Step (ClauseWithHints c.next (integers_of left.lits) hints) ∷ []) old)
-  left_is_told = clause_is_told formula e.parities st.0 st.1 st.3.log.served.served c.conflicts st.3.counts.marked c.next left.lits hints back added right ends (let few = ties_add_few formula c e rows st.0 st.3 in omega (arith, few)) old st.2
+  pub left_is_told : IsEndedWith c.tidies formula c.conflicts (negations left.lits) (with_events (Step (ClauseWithHints c.next (integers_of left.lits) hints) ∷ []) old)
+  left_is_told = clause_is_told formula e.parities st.0 st.1 st.3.log.served.served c.conflicts st.3.counts.marked c.next left.lits hints back added right ends (λ plain. let few = ties_add_few formula c e rows st.0 st.3 plain in omega (arith, few)) old st.2
 
   pub left_is_unmet : Unmet formula
   left_is_unmet = clause_is_unmet formula e.parities st.0 st.1 st.3.log.served.served c.conflicts st.3.counts.marked c.next left.lits hints back added right ends

@@ -1,5 +1,5 @@
 -- A search adds few clauses and parities for its marks.
-use Rattle.std.proofs.Common.{◌≡◌, refl, ap, ℕ, ◌+◌, ◌*◌, ◌≤◌, ℤ, List, [], ◌∷◌, ◌++◌, length, inl, inr, arith}
+use Rattle.std.proofs.Common.{◌≡◌, refl, ap, ℕ, ◌+◌, ◌*◌, ◌≤◌, ℤ, Bool, true, false, List, [], ◌∷◌, length, inl, inr, arith}
 use Rattle.std.proofs.Math.Nat.{mul-le-mul_left, mul_comm}
 use Rattle.cx_base.specs.Literals.{Literal}
 use Rattle.cx_base.specs.Integers.{integer_of, integers_of}
@@ -18,14 +18,20 @@ use Rattle.cdcl_search.specs.Ties.{Ties}
 use Rattle.cdcl_core.specs.declared.shortening.UnitClause.{UnitClause}
 use Rattle.cdcl_core.specs.Learning.{IsTaught}
 use Rattle.cdcl_core.specs.Narrowing.{over}
+use Rattle.cdcl_core.specs.Results.{IsBoundedIn}
 use Rattle.cdcl_core.specs.Shortening.{ArePartedInto, unit_parity_events, late_unit_events}
 use Rattle.cdcl_core.proofs.OriginalLaws.{both_kinds}
 
+-- only a search that does not tidy has to add few
+pub bounded_in : (tidies : Bool) (formula : Problem) (marks : ℕ) (events : List LogEvent) → (tidies ≡ false → IsBounded formula marks events) → IsBoundedIn tidies formula marks events
+bounded_in false formula marks events few = few refl
+bounded_in true formula marks events few = tt
+
 -- ---- between two conflicts
 -- there is room for an end that adds two for each variable, and two more
-pub ties_add_few : (formula : Problem) (c : SearchState) (e : State) (rows : List (List Literal)) (s : Search) → Ties formula c e rows s → additions s.events + 2 * formula.variables + 2 ≤ most_additions formula c.conflicts
-ties_add_few formula c e rows s t =
-    let was = t.log.few_additions in
+pub ties_add_few : (formula : Problem) (c : SearchState) (e : State) (rows : List (List Literal)) (s : Search) → Ties formula c e rows s → c.tidies ≡ false → additions s.events + 2 * formula.variables + 2 ≤ most_additions formula c.conflicts
+ties_add_few formula c e rows s t plain =
+    let was = t.log.few_additions plain in
     let few = t.log.few_rows in
     let taken = t.ids.taken in
     let units = t.units.few in
@@ -35,17 +41,17 @@ ties_add_few formula c e rows s t =
     let cost = ap (λ (k : ℕ). formula.variables * k) marks in
     omega (arith, was, few, taken, units, short, vars, marks, cost)
 
-pub search_is_bounded : (formula : Problem) (c : SearchState) (e : State) (rows : List (List Literal)) (s : Search) → Ties formula c e rows s → IsBounded formula c.conflicts s.events
-search_is_bounded formula c e rows s t = let few = ties_add_few formula c e rows s t in omega (arith, few)
+pub search_is_bounded : (formula : Problem) (c : SearchState) (e : State) (rows : List (List Literal)) (s : Search) → Ties formula c e rows s → IsBoundedIn c.tidies formula c.conflicts s.events
+search_is_bounded formula c e rows s t = bounded_in c.tidies formula c.conflicts s.events (λ plain. let few = ties_add_few formula c e rows s t plain in omega (arith, few))
 
 -- so it is after a learned clause
 pub learned_is_bounded : (formula : Problem) (c : SearchState) (e : State) (lits : List Literal) (back : ℕ) (s : Search) (taught : IsTaught formula c e lits back s) (hints : List ℤ)
-    → IsBounded formula (c.conflicts + 1) (after_round s c.next (integers_of lits) hints back taught.first).events
-learned_is_bounded formula c e lits back s taught hints =
-    let few = ties_add_few formula c e taught.rows s taught.ties in
+    → IsBoundedIn c.tidies formula (c.conflicts + 1) (after_round s c.next (integers_of lits) hints back taught.first).events
+learned_is_bounded formula c e lits back s taught hints = bounded_in c.tidies formula (c.conflicts + 1) (after_round s c.next (integers_of lits) hints back taught.first).events (λ plain.
+    let few = ties_add_few formula c e taught.rows s taught.ties plain in
     let one = round_adds_one s c.next (integers_of lits) hints back taught.first in
     let cost = one_mark_more formula.variables c.conflicts in
-    omega (arith, few, one, cost)
+    omega (arith, few, one, cost))
 
 -- ---- at the end
 -- the formula's constraints alone

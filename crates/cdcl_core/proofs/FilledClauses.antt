@@ -137,6 +137,7 @@ nothing_is_filled formula c e = record {
   conflicts = e.conflicts;
   none_learned = e.none_learned;
   not_reduced = e.not_reduced;
+  never_tidies = e.never_tidies;
   stored = λ r live. absurd (no_clause r live);
   apart = λ r q live more same. absurd (no_clause r live);
   units_are = tt;
@@ -195,6 +196,7 @@ module _ (formula : Problem) (f : Filled) (lits : List Literal) (is : IsNext for
       conflicts = is.filled.conflicts;
       none_learned = is.filled.none_learned;
       not_reduced = is.filled.not_reduced;
+      never_tidies = is.filled.never_tidies;
       stored = λ r live. let st = is.filled.stored r live in let high = st.high in record { wide = st.wide; low = st.low; high = omega (arith, high); same = st.same; original = st.original };
       apart = is.filled.apart;
       units_are = units_are;
@@ -312,6 +314,7 @@ module _ (formula : Problem) (f : Filled) (lits : List Literal) (is : IsNext for
       conflicts = a.conflicts ∙ is.filled.conflicts;
       none_learned = a.learned ∙ is.filled.none_learned;
       not_reduced = a.reductions ∙ is.filled.not_reduced;
+      never_tidies = a.tidies ∙ is.filled.never_tidies;
       stored = stored_then long;
       apart = apart_then;
       units_are = is.filled.units_are;

@@ -24,7 +24,7 @@ use Rattle.conflict_learn.proofs.ChainOfResolutions.{by_cases}
 use Rattle.xor_recover.specs.declared.found.FoundParity.{FoundParity}
 use Rattle.xor_recover.specs.Finds.{IsJudgedRight}
 use Rattle.search_steps.specs.Ids.{HasFreeSums}
-use Rattle.search_steps.specs.Search.{Search, IsSearch, told}
+use Rattle.search_steps.specs.Search.{Search, IsSearchIn, told}
 use Rattle.search_steps.proofs.IdLaws.{begun_has_free_sums, recovered_has_free_sums}
 use Rattle.search_steps.proofs.OverSearch.{theirs_are_had}
 use Rattle.search_steps.specs.Size.{additions}
@@ -98,7 +98,7 @@ pub begun_has_given : (formula : Problem) (o : Option (List LogEvent)) → clash
 begun_has_given formula o apart b = (
   b.0,
   record {
-    search = begun_is_search formula b.0 apart b.1;
+    search = λ tidies. begun_is_search {tidies = tidies} formula b.0 apart b.1;
     clauses = b.2;
     no_more = b.1.clauses.free;
     listed = b.3;
@@ -117,7 +117,7 @@ begun_has_given formula o apart b = (
 
 pub given_is_left : (formula : Problem) (parities : List (List Literal)) (o : Option (List LogEvent)) → HasGiven formula parities o → IsLeft formula o
 given_is_left formula parities None g = tt
-given_is_left formula parities (Some es) g = subst (λ xs. IsLeft formula (Some xs)) (sym g.2) (Rattle.std.proofs.Common.inl (g.1.search.log.apart, (g.0.moment.tables, g.1.search.log.runs)))
+given_is_left formula parities (Some es) g = subst (λ xs. IsLeft formula (Some xs)) (sym g.2) (Rattle.std.proofs.Common.inl ((g.1.search false).log.apart, (g.0.moment.tables, (g.1.search false).log.runs)))
 
 -- ---- one more
 module _ (formula : Problem) (parities : List (List Literal)) (s : Search) (g : IsGiven formula parities s) (find : FoundParity) (w : AreWithin formula.variables find.parity) (judged : IsJudgedRight formula find) where
@@ -149,8 +149,8 @@ module _ (formula : Problem) (parities : List (List Literal)) (s : Search) (g : 
 
   find_is_given : IsGiven formula (parities ++ find.parity ∷ []) after
   find_is_given = record {
-    search = subst (λ xs. IsSearch formula (parities ++ xs ∷ []) after) lits_are
-        (recovered_joins formula parities s g.search g.no_trail g.no_level id zs find.clauses (omega arith) (g.sums id (omega arith)) is_right);
+    search = λ tidies. subst (λ xs. IsSearchIn tidies formula (parities ++ xs ∷ []) after) lits_are
+        (recovered_joins formula parities s (g.search tidies) g.no_trail g.no_level id zs find.clauses (omega arith) (g.sums id (omega arith)) is_right);
     clauses = g.clauses;
     no_more = g.no_more;
     listed = subst (λ xs. AreListedFromOne after.moment.tables.parities (parities ++ xs ∷ [])) lits_are (listed_more s.moment.tables.parities parities (literals zs) g.listed);

@@ -17,7 +17,7 @@ use Rattle.search_policy.specs.Standing.{AllStand}
 use Rattle.parity_engine.specs.State.{State, Named, named_at, keep, keep_named, back}
 use Rattle.search_steps.specs.Trail.{Entry, back_to, level_of, held}
 use Rattle.search_steps.specs.Quiet.{IsOfParities}
-use Rattle.search_steps.specs.Search.{Search, IsSearch, jumped}
+use Rattle.search_steps.specs.Search.{Search, IsSearchIn, jumped}
 use Rattle.search_steps.specs.Tied.{IsTied}
 use Rattle.search_steps.specs.Ids.{IsRanged}
 use Rattle.search_steps.specs.Size.{HasFewAdditions}
@@ -28,7 +28,7 @@ use Rattle.search_steps.proofs.IdLaws.{jump_ranged}
 use Rattle.search_steps.proofs.EngineLaws.{back_holds_values, lagging_back}
 use Rattle.search_steps.proofs.OverSearch.{older_is_trail}
 use Rattle.cdcl_search.specs.declared.state.SearchState.{SearchState}
-use Rattle.cdcl_search.specs.Ties.{Ties, IsWatched, ClauseTies, AreRows, AreUnits, CountTies, HasReasonOf, stretches, first_row_id, row_ids, IsNamedBy, IsFed}
+use Rattle.cdcl_search.specs.Ties.{Ties, IsWatched, ClauseTies, AreLearned, AreRows, AreUnits, CountTies, HasReasonOf, stretches, first_row_id, row_ids, IsNamedBy, IsFed}
 use Rattle.cdcl_search.proofs.Places.{entry_behind, tied_length, older_level, older_stay}
 
 -- the engine is at the trail's level
@@ -50,12 +50,13 @@ pub record GoesBack (k : ℕ) (c d : SearchState) (e f : State) : Type 0 where
   pub conflicts : d.conflicts ≡ c.conflicts
   pub learned : d.learned ≡ c.learned
   pub reductions : d.reductions ≡ c.reductions
+  pub tidies : d.tidies ≡ c.tidies
   pub engine : f ≡ back k e
 
 named_kept : (k : ℕ) (o : Option Named) (n : Named) → o ≡ Some n → n.in_conflict ≡ false → n.level ≤ k → keep_named k o ≡ Some n
 named_kept k o n is calm low = ap (keep_named k) is ∙ ap (λ b. cond (not b && nat_le n.level k) (Some n) None) calm ∙ ap (λ b. cond b (Some n) None) (le-leb n.level k low)
 
-module _ (formula : Problem) (k : ℕ) (c d : SearchState) (e f : State) (rows : List (List Literal)) (s : Search) (ok : IsSearch formula e.parities s) (t : Ties formula c e rows s) (g : GoesBack k c d e f) where
+module _ (formula : Problem) (k : ℕ) (c d : SearchState) (e f : State) (rows : List (List Literal)) (s : Search) (ok : IsSearchIn c.tidies formula e.parities s) (t : Ties formula c e rows s) (g : GoesBack k c d e f) where
   abbrev IsRow : List Literal → Type 0
   IsRow = IsOfParities formula.variables e.parities
 
@@ -221,11 +222,12 @@ module _ (formula : Problem) (k : ℕ) (c d : SearchState) (e f : State) (rows :
       numbered = t.log.numbered;
       rows_told = subst (λ n. AreRows s.moment.tables.clauses (first_row_id n) rows) (sym g.next) t.log.rows_told;
       few_rows = t.log.few_rows;
-      few_additions = subst (λ n. HasFewAdditions formula n (first_row_id n) (length rows) (jumped s k)) (sym g.next) t.log.few_additions;
+      few_additions = λ plain. subst (λ n. HasFewAdditions formula n (first_row_id n) (length rows) (jumped s k)) (sym g.next) (t.log.few_additions (sym g.tidies ∙ plain));
       none_at_0 = t.log.none_at_0;
       served = record { served = t.log.served.served; old_clauses = t.log.served.old_clauses; new_clauses = t.log.served.new_clauses ∙ ap (λ n. row_ids (first_row_id n) (length rows)) (sym g.next); old_sums = t.log.served.old_sums; new_sums = t.log.served.new_sums };
     };
     clauses = clauses_then;
+    learned = subst (λ a. AreLearned a s.moment.learned) (sym g.arena) t.learned;
     trail = record { follows = record { tied = tied_then; sound = g.sound }; variables = g.takes.variables ∙ t.trail.variables; stand = g.stand; phased = g.phases ∙ t.trail.phased };
     units = subst (λ n. AreUnits s.moment.tables.clauses n d.trail (back_to k s.trail) d.units.items) (sym g.next) (subst (AreUnits s.moment.tables.clauses c.next d.trail (back_to k s.trail)) (sym g.units) units_then);
     engine = record { vars = t.engine.vars; wide = length-map e.values (keep k) ∙ t.engine.wide; theirs = t.engine.theirs; few = t.engine.few; fed = subst (λ n. IsFed (back_to k s.trail) n (back k e)) (sym g.given) fed_then };

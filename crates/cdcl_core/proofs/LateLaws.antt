@@ -31,7 +31,7 @@ use Rattle.cx_semantics.specs.Marked.{Moment}
 use Rattle.search_steps.specs.Hints.{AreHintsFor}
 use Rattle.search_steps.specs.Ids.{AreRowIds, IsRanged}
 use Rattle.search_steps.specs.LogSteps.{all_told}
-use Rattle.search_steps.specs.Search.{Search, IsSearch, told}
+use Rattle.search_steps.specs.Search.{Search, IsSearchIn, told}
 use Rattle.search_steps.specs.Size.{additions, most_additions}
 use Rattle.search_steps.specs.Tied.{IsLiveSet, IsLiveOr}
 use Rattle.search_steps.specs.Trail.{Entry}
@@ -74,8 +74,8 @@ pub record IsLate (formula : Problem) (clause : List Literal) (l : Literal) : Ty
   pub has : has_literal clause l ≡ true
 
 -- their unit clauses were told, under the ids from the first one on
-pub record AreLateTold (formula : Problem) (parities : List (List Literal)) (old new : Search) (n : ℕ) (units : List UnitClause) : Type 0 where
-  pub search : IsSearch formula parities new
+pub record AreLateTold (tidies : Bool) (formula : Problem) (parities : List (List Literal)) (old new : Search) (n : ℕ) (units : List UnitClause) : Type 0 where
+  pub search : IsSearchIn tidies formula parities new
   pub parities_same : new.moment.tables.parities ≡ old.moment.tables.parities
   pub low : (m : ℕ) → m < n → get new.moment.tables.clauses m ≡ get old.moment.tables.clauses m
   pub units_in : AllByRecursion (IsUnitIn formula.variables new.moment.tables.clauses) units
@@ -108,7 +108,7 @@ hints_still table n lits none target hints h =
 abbrev pub AreHintsBeside : Table → List Literal → List ℤ → Type 0
 AreHintsBeside table clause hints = (m : Literal) → has_literal clause (negate m) ≡ true → AreHintsFor table (m ∷ []) hints
 
-module _ (formula : Problem) (parities : List (List Literal)) (hints : List ℤ) (clause : List Literal) (clauses : List (List Literal)) (serves : (assumed : List Literal) → chain assumed clauses ≡ right) where
+module _ (tidies : Bool) (formula : Problem) (parities : List (List Literal)) (hints : List ℤ) (clause : List Literal) (clauses : List (List Literal)) (serves : (assumed : List Literal) → chain assumed clauses ≡ right) where
   module _ (l : Literal) (n : ℕ) (s : Search) (is : IsLate formula clause l) (free : (m : ℕ) → n ≤ m → get s.moment.tables.clauses m ≡ None) where
     abbrev z : ℤ
     z = integer_of (negate l)
@@ -125,7 +125,7 @@ module _ (formula : Problem) (parities : List (List Literal)) (hints : List ℤ)
     abbrev after : Search
     after = told s (Step (ClauseWithHints n (z ∷ []) hints))
 
-    late_next : IsSearch formula parities s → s.quiet_levels ≡ 0 → AllByRecursion (IsLiveOr s.moment.tables.clauses clause) clauses → AreHintsBeside s.moment.tables.clauses clause hints → s.moment.awaits ≡ false → IsSearch formula parities after
+    late_next : IsSearchIn tidies formula parities s → s.quiet_levels ≡ 0 → AllByRecursion (IsLiveOr s.moment.tables.clauses clause) clauses → AreHintsBeside s.moment.tables.clauses clause hints → s.moment.awaits ≡ false → IsSearchIn tidies formula parities after
     late_next ok level are hinted served =
         let has : has_literal clause (negate (literal z)) ≡ true = ap (λ x. has_literal clause (negate x)) one ∙ ap (has_literal clause) (negate-negate l) ∙ is.has in
         beside_unit_keeps formula parities s ok level n z hints (record { within = variables_are_within formula.variables (negate l ∷ []) within; free = free n (omega arith) })
@@ -133,8 +133,8 @@ module _ (formula : Problem) (parities : List (List Literal)) (hints : List ℤ)
         (ap (λ x. assumes formula.constraints (negate x) && true) one ∙ ap (λ x. assumes formula.constraints x && true) (negate-negate l) ∙ ap (λ b. b && true) is.apart)
         served clause clauses are serves has
 
-    late_more : (lits : List Literal) → AreLateTold formula parities after (all_told after (late_unit_events hints (late_units_from (n + 1) lits))) (n + 1) (late_units_from (n + 1) lits)
-        → AreLateTold formula parities s (all_told s (late_unit_events hints (late_units_from n (l ∷ lits)))) n (late_units_from n (l ∷ lits))
+    late_more : (lits : List Literal) → AreLateTold tidies formula parities after (all_told after (late_unit_events hints (late_units_from (n + 1) lits))) (n + 1) (late_units_from (n + 1) lits)
+        → AreLateTold tidies formula parities s (all_told s (late_unit_events hints (late_units_from n (l ∷ lits)))) n (late_units_from n (l ∷ lits))
     late_more lits rest = record {
       search = rest.search;
       parities_same = rest.parities_same;
@@ -155,9 +155,9 @@ module _ (formula : Problem) (parities : List (List Literal)) (hints : List ℤ)
       conflicts = rest.conflicts;
     }
 
-  pub late_told : (lits : List Literal) (n : ℕ) (s : Search) → IsSearch formula parities s → s.quiet_levels ≡ 0 → AllByRecursion (IsLiveOr s.moment.tables.clauses clause) clauses → AreHintsBeside s.moment.tables.clauses clause hints
+  pub late_told : (lits : List Literal) (n : ℕ) (s : Search) → IsSearchIn tidies formula parities s → s.quiet_levels ≡ 0 → AllByRecursion (IsLiveOr s.moment.tables.clauses clause) clauses → AreHintsBeside s.moment.tables.clauses clause hints
       → ((m : ℕ) → n ≤ m → get s.moment.tables.clauses m ≡ None) → s.moment.awaits ≡ false
-      → AllByRecursion (IsLate formula clause) lits → AreLateTold formula parities s (all_told s (late_unit_events hints (late_units_from n lits))) n (late_units_from n lits)
+      → AllByRecursion (IsLate formula clause) lits → AreLateTold tidies formula parities s (all_told s (late_unit_events hints (late_units_from n lits))) n (late_units_from n lits)
   late_told [] n s ok level live hinted free served are = record {
     search = ok;
     parities_same = refl;
@@ -236,8 +236,8 @@ module _ (formula : Problem) (c : SearchState) (e : State) (rows : List (List Li
   left_within : AreWithin formula.variables left
   left_within = left_all (λ l. (1 ≤ l.variable) × (l.variable ≤ formula.variables)) r.clause left units by.shortened.parts (clause_within formula c e rows s st.3 r x)
 
-  told_late : AreLateTold formula e.parities s s1 first late
-  told_late = late_told formula e.parities hints r.clause clauses serves left first s st.1 (st.3.levels ∙ level_tied s.trail c.trail st.3.trail.follows.tied st.3.trail.follows.sound ∙ level) live hinted
+  told_late : AreLateTold c.tidies formula e.parities s s1 first late
+  told_late = late_told c.tidies formula e.parities hints r.clause clauses serves left first s st.1 (st.3.levels ∙ level_tied s.trail c.trail st.3.trail.follows.tied st.3.trail.follows.sound ∙ level) live hinted
       (λ m high. row_next_is_free formula (first_row_id c.next) c.next m s (ranged_up formula (first_row_id c.next) c.next first m s.trail s.moment high st.3.log.ranged) (omega (arith, high)))
       st.3.log.served.served (are_late left (left_inside r.clause left units by.shortened.parts) left_within)
 
@@ -257,7 +257,7 @@ module _ (formula : Problem) (c : SearchState) (e : State) (rows : List (List Li
   all_units : AllByRecursion (IsUnitIn formula.variables s1.moment.tables.clauses) (units ++ late)
   all_units = all_append _ units late (told_still units by.shortened.told) told_late.units_in
 
-  ready : IsReadyToEnd formula e.parities c.conflicts k (first + length left) s1
+  ready : IsReadyToEnd c.tidies formula e.parities c.conflicts k (first + length left) s1
   ready =
       let before = ready_to_end formula c e rows s st.1 st.3 in
       record {
@@ -285,9 +285,9 @@ module _ (formula : Problem) (c : SearchState) (e : State) (rows : List (List Li
     ends = refl;
   }
 
-  few_then : additions s1.events + length (units ++ late) + 2 ≤ most_additions formula c.conflicts
-  few_then =
-      let few = ties_add_few formula c e rows s st.3 in
+  few_then : c.tidies ≡ false → additions s1.events + length (units ++ late) + 2 ≤ most_additions formula c.conflicts
+  few_then plain =
+      let few = ties_add_few formula c e rows s st.3 plain in
       let parts = parts_are_all r.clause left units by.shortened.parts in
       let width = few_by formula c e rows s st.1 st.3 r x in
       let join = told_adds s (late_unit_events hints late) in
@@ -299,14 +299,14 @@ module _ (formula : Problem) (c : SearchState) (e : State) (rows : List (List Li
   pub refuted_none : n.failed ≡ []
   refuted_none = by.ends.failed ∙ ap negations by.nothing
 
-  pub refuted_ends : EndsLog formula c.conflicts told_ n.failed n.steps.items
-  refuted_ends = subst (λ failed. EndsLog formula c.conflicts told_ failed n.steps.items) (sym refuted_none) (record {
+  pub refuted_ends : EndsLog formula c told_ n.failed n.steps.items
+  refuted_ends = subst (λ failed. EndsLog formula c told_ failed n.steps.items) (sym refuted_none) (record {
     texts = by.ends.steps.texts;
     unmet = left_is_unmet formula e.parities c.conflicts k (first + length left) s1 ready r.sources (units ++ late) [] of_row all_units;
     fails = left_fails formula e.parities c.conflicts k (first + length left) s1 ready r.sources (units ++ late) [] of_row all_units;
     apart = st.1.log.apart;
-    log = subst (λ xs. IsEndedWith formula c.conflicts [] (with_events xs told_)) (sym steps_are)
-        (subst (IsEndedWith formula c.conflicts []) (more_and_more (late_unit_events hints late) (short_row_events k r.sources (units ++ late) [] (first + length left)) told_)
+    log = subst (λ xs. IsEndedWith c.tidies formula c.conflicts [] (with_events xs told_)) (sym steps_are)
+        (subst (IsEndedWith c.tidies formula c.conflicts []) (more_and_more (late_unit_events hints late) (short_row_events k r.sources (units ++ late) [] (first + length left)) told_)
         (left_ends formula e.parities c.conflicts k (first + length left) s1 ready r.sources (units ++ late) [] of_row all_units few_then (with_events (late_unit_events hints late) told_) (all_told_are (late_unit_events hints late) s told_ st.2)));
   })
     where

@@ -11,7 +11,7 @@ use Rattle.cx_base.specs.declared.steps.LogStep.TheVariants.{Delete}
 use Rattle.cx_base.specs.declared.steps.LogEvent.{LogEvent}
 use Rattle.cx_base.specs.declared.steps.LogEvent.TheVariants.{Step}
 use Rattle.cx_semantics.specs.Chain.{has_literal, is_inside}
-use Rattle.cx_semantics.specs.Marked.{Moment, without}
+use Rattle.cx_semantics.specs.Marked.{Moment, is_among, without}
 use Rattle.cx_semantics.specs.Settled.{IsClauseOf}
 use Rattle.cx_semantics.specs.Tables.{get}
 use Rattle.cx_semantics.proofs.Closure.{has_by_inside}
@@ -27,7 +27,7 @@ use Rattle.search_steps.specs.Covers.{IsCover, IsSpared, rows_in}
 use Rattle.search_steps.specs.Quiet.{HasTrue}
 use Rattle.search_steps.specs.Trail.{Entry, by_clause, held, all_held}
 use Rattle.search_steps.specs.LogSteps.{IsNoReason}
-use Rattle.search_steps.specs.Search.{Search, IsSearch, told}
+use Rattle.search_steps.specs.Search.{Search, IsSearchIn, told}
 use Rattle.search_steps.specs.Schedule.{IsInReduction, IsRestart}
 use Rattle.search_steps.specs.Size.{additions}
 use Rattle.search_steps.proofs.ScheduleLaws.{moment_is, reduction_may_begin, reduction_goes_on}
@@ -45,8 +45,9 @@ use Rattle.cdcl_search.specs.Logs.{GoesOn}
 use Rattle.cdcl_search.specs.Tells.{IsLeft, with_events}
 use Rattle.cdcl_search.specs.Ties.{IsNamedBy, first_row_id}
 use Rattle.tidy_rules.specs.Tidied.{HasTwo}
-use Rattle.cdcl_search.specs.Ties.{Ties, SearchStands, IsKept, IsHeld, NeedsNoLearned, RestOnUnits, IsFallingFrom}
+use Rattle.cdcl_search.specs.Ties.{Ties, SearchStands, IsKept, IsHeld, NeedsNoLearned, AreLearned, RestOnUnits, IsFallingFrom}
 use Rattle.cdcl_core.specs.Reducing.{SearchLoses, WasWatched}
+use Rattle.cdcl_search.proofs.LearnedIds.{among_without}
 use Rattle.cdcl_search.proofs.UnitTies.{falls_lower}
 use Rattle.cdcl_search.proofs.Places.{tied_length}
 use Rattle.cdcl_core.proofs.EndingLaws.{no_newer}
@@ -110,7 +111,7 @@ module _ (a : ArenaState) (r : ℕ) where
   still_live : (q : ℕ) → q ≢ r → IsLive a q → IsLive less q
   still_live q h live = subst IsSome (sym (other_stays q h)) live
 
-module _ (formula : Problem) (c : SearchState) (e : State) (s : Search) (ok : IsSearch formula e.parities s) (p : Ties formula c e [] s) (r : ℕ) (live : IsLive c.arena r) (was_learned : IsTrue (learned_at c.arena r))
+module _ (formula : Problem) (c : SearchState) (e : State) (s : Search) (ok : IsSearchIn c.tidies formula e.parities s) (p : Ties formula c e [] s) (r : ℕ) (live : IsLive c.arena r) (was_learned : IsTrue (learned_at c.arena r))
     (all_units : length c.units.items ≡ length c.trail.entries) (fresh : s.moment.reductions < c.reductions) (enough : 751 + 250 * c.reductions ≤ c.learned)
     (reducing : IsInReduction s.events) where
   abbrev n : ℕ
@@ -188,7 +189,7 @@ module _ (formula : Problem) (c : SearchState) (e : State) (s : Search) (ok : Is
   left : length s.moment.learned ≤ length (without s.moment.learned n) + 1
   left = one_less c.next s.moment.learned n p.counts.falling
 
-  pub is_search_then : IsSearch formula e.parities after
+  pub is_search_then : IsSearchIn c.tidies formula e.parities after
   is_search_then = delete_learned_keeps formula e.parities s ok n [] spared is_no_reason
       (let many = p.counts.many in let one = left in omega (arith, fresh, enough, many, one)) reducing
 
@@ -215,6 +216,13 @@ module _ (formula : Problem) (c : SearchState) (e : State) (s : Search) (ok : Is
         | inr more ↦ inr more
       ]
 
+  learned_stays : AreLearned b after.moment.learned
+  learned_stays q h is =
+      let was = was_live c.arena r q h in
+      let same = other_stays c.arena r q (is_other c.arena r q h) in
+      let other : id_at c.arena q ≢ n = λ i. is_other c.arena r q h (p.clauses.apart q r was live i) in
+      ap (λ o. is_among (without s.moment.learned n) (id_in o)) same ∙ among_without s.moment.learned n (id_at c.arena q) other (p.learned q was (ap learned_in (sym same) ∙ is))
+
   abbrev d : SearchState
   d = record c { arena = b; learned = c.learned - 1 }
 
@@ -229,7 +237,7 @@ module _ (formula : Problem) (c : SearchState) (e : State) (s : Search) (ok : Is
       numbered = p.log.numbered;
       rows_told = λ i h. absurd (omega (arith, h));
       few_rows = omega arith;
-      few_additions = let was = p.log.few_additions in let same = additions_less in omega (arith, was, same);
+      few_additions = λ plain. let was = p.log.few_additions plain in let same = additions_less in omega (arith, was, same);
       none_at_0 = drop_other s.moment.tables.clauses n 0 (λ same. let late = here.late was_learned in omega (arith, same, late)) ∙ p.log.none_at_0;
       served = record {
         served = p.log.served.served;
@@ -246,6 +254,7 @@ module _ (formula : Problem) (c : SearchState) (e : State) (s : Search) (ok : Is
           (ap id_in (sym (other_stays c.arena r q (is_other c.arena r q ql))) ∙ same ∙ ap id_in (other_stays c.arena r k (is_other c.arena r k kl)));
       original = original_then;
     };
+    learned = learned_stays;
     trail = p.trail;
     units = record {
       few = p.units.few;
@@ -298,6 +307,7 @@ reduction_begins formula c e told_ (s, ok, are, p, fits) enough restart = (
   record {
     log = p.log;
     clauses = p.clauses;
+    learned = p.learned;
     trail = p.trail;
     units = p.units;
     engine = p.engine;
@@ -327,6 +337,7 @@ reduction_ends formula c e told_ w (s, ok, are, p, f, fresh, reducing) cut = (
   record {
     log = p.log;
     clauses = p.clauses;
+    learned = p.learned;
     trail = p.trail;
     units = p.units;
     engine = p.engine;

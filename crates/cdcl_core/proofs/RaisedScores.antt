@@ -19,6 +19,7 @@ order_raised formula c e told stands o standing scores =
       record {
         log = ties.log;
         clauses = ties.clauses;
+        learned = ties.learned;
         trail = record {
           follows = t.follows;
           variables = t.variables;

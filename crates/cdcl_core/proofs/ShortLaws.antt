@@ -7,7 +7,7 @@ use Rattle.std.proofs.lemmas.List.{map-append}
 use Rattle.std.proofs.lemmas.Bool.{and_parts, and_from, or_parts}
 use Rattle.cx_base.specs.Literals.{Literal, negate, differ, literal_true}
 use Rattle.cx_base.specs.Assumptions.{is_ending, IsFailed}
-use Rattle.cx_base.specs.Integers.{integer_of, integers_of, literal, literals}
+use Rattle.cx_base.specs.Integers.{integer_of, integers_of, literals}
 use Rattle.cx_base.specs.Parity.{NormalForm, normal_form, sum_of}
 use Rattle.cx_base.specs.Problem.{Problem, Unmet, AreWithin, clause_met, parity_met}
 use Rattle.cx_base.specs.declared.steps.LogEvent.{LogEvent}
@@ -33,8 +33,8 @@ use Rattle.xor_reason.specs.declared.reason.ReasonOf.{ReasonOf}
 use Rattle.search_steps.specs.Holding.{AreTold}
 use Rattle.search_steps.specs.Ids.{HasFreeSums}
 use Rattle.search_steps.specs.LogSteps.{IsAddition, IsClauseOfRow, IsEnded, all_told}
-use Rattle.search_steps.specs.Search.{Search, IsSearch, told}
-use Rattle.search_steps.specs.Size.{additions, most_additions, IsBounded}
+use Rattle.search_steps.specs.Search.{Search, IsSearchIn, told}
+use Rattle.search_steps.specs.Size.{additions, most_additions}
 use Rattle.search_steps.proofs.SizeLaws.{told_adds}
 use Rattle.search_steps.proofs.Ends.{row_clause_ends, row_clause_fails, row_clause_is_marked, ended_is_unmet, row_clause_is_scheduled, row_clause_is_hinted}
 use Rattle.search_steps.proofs.IdLaws.{row_next_is_free}
@@ -50,7 +50,7 @@ use Rattle.cdcl_search.proofs.OneSign.{distinct_of_each}
 use Rattle.cdcl_search.proofs.RowSteps.{all_told_are, named_are, all_live, parity_within, clause_within}
 use Rattle.cdcl_search.proofs.TableLaws.{put_same, put_other}
 use Rattle.cdcl_core.specs.Concluding.{IsEndedWith}
-use Rattle.cdcl_core.specs.Results.{EndsFor}
+use Rattle.cdcl_core.specs.Results.{EndsFor, IsBoundedIn}
 use Rattle.xor_reason.specs.ReasonClause.{AreFalseBut}
 use Rattle.std.specs.Prelude.{IfOk, Result, Ok, Err}
 use Rattle.std.specs.declared.alloc.AllocError.{AllocError}
@@ -59,7 +59,7 @@ use Rattle.cdcl_core.specs.declared.shortening.Shortened.{Shortened}
 use Rattle.cdcl_core.specs.Shortening.{AreShort, ArePartedInto, EndsBy, EndsByRow, IsShortened, IsToldUnit, unit_parity_events, short_row_events}
 use Rattle.cdcl_core.specs.declared.shortening.UnitClause.{UnitClause}
 use Rattle.cdcl_core.proofs.ShortForms.{alone, clause_form, left_is_sum}
-use Rattle.cdcl_core.proofs.FewAdditions.{parities_of_units_add}
+use Rattle.cdcl_core.proofs.FewAdditions.{bounded_in, parities_of_units_add}
 
 -- ---- parts
 pub left_more : (lits left : List Literal) (units : List UnitClause) (l : Literal) → ArePartedInto lits left units → ArePartedInto (lits ++ l ∷ []) (left ++ l ∷ []) units
@@ -136,8 +136,8 @@ pub record IsUnitIn (n : ℕ) (table : Table) (u : UnitClause) : Type 0 where
   pub live : IsNamedBy table (alone u) u.id
 
 -- the parities of the units were told, under the ids from the first one on
-pub record AreJoined (formula : Problem) (parities : List (List Literal)) (old new : Search) (k : ℕ) (units : List UnitClause) : Type 0 where
-  pub search : IsSearch formula parities new
+pub record AreJoined (tidies : Bool) (formula : Problem) (parities : List (List Literal)) (old new : Search) (k : ℕ) (units : List UnitClause) : Type 0 where
+  pub search : IsSearchIn tidies formula parities new
   pub clauses : new.moment.tables.clauses ≡ old.moment.tables.clauses
   pub low : (m : ℕ) → m < k → get new.moment.tables.parities m ≡ get old.moment.tables.parities m
   pub names : named new.moment.tables.parities (range_with_len k (length units)) ≡ map alone units
@@ -146,18 +146,18 @@ pub record AreJoined (formula : Problem) (parities : List (List Literal)) (old n
   pub served : new.moment.awaits ≡ false
   pub conflicts : new.conflicts ≡ old.conflicts
 
-module _ (formula : Problem) (parities : List (List Literal)) where
+module _ (tidies : Bool) (formula : Problem) (parities : List (List Literal)) where
   unit_back : (u : UnitClause) → AreWithin formula.variables (alone u) → literals (integer_of u.literal ∷ []) ≡ alone u
   unit_back u within = literals_are formula.variables (alone u) within
 
-  one_is : (u : UnitClause) (k : ℕ) (s : Search) → IsSearch formula parities s → IsUnitIn formula.variables s.moment.tables.clauses u → get s.moment.tables.parities k ≡ None
-      → IsSearch formula parities (told s (Step (ParityOfClauses k (integer_of u.literal ∷ []) (u.id ∷ []))))
+  one_is : (u : UnitClause) (k : ℕ) (s : Search) → IsSearchIn tidies formula parities s → IsUnitIn formula.variables s.moment.tables.clauses u → get s.moment.tables.parities k ≡ None
+      → IsSearchIn tidies formula parities (told s (Step (ParityOfClauses k (integer_of u.literal ∷ []) (u.id ∷ []))))
   one_is u k s ok is free = unit_parity_keeps formula parities s ok k (integer_of u.literal) u.id is.live.clause (record { within = variables_are_within formula.variables (alone u) is.within; free = free }) is.live.live
       (ap (λ ls. same_literals ls is.live.clause) (unit_back u is.within) ∙ is.live.same)
 
   one_more : (u : UnitClause) (units : List UnitClause) (k : ℕ) (s : Search) → ((n : ℕ) → k ≤ n → get s.moment.tables.parities n ≡ None) → IsUnitIn formula.variables s.moment.tables.clauses u
-      → AreJoined formula parities (told s (Step (ParityOfClauses k (integer_of u.literal ∷ []) (u.id ∷ [])))) (all_told s (unit_parity_events k (u ∷ units))) (k + 1) units
-      → AreJoined formula parities s (all_told s (unit_parity_events k (u ∷ units))) k (u ∷ units)
+      → AreJoined tidies formula parities (told s (Step (ParityOfClauses k (integer_of u.literal ∷ []) (u.id ∷ [])))) (all_told s (unit_parity_events k (u ∷ units))) (k + 1) units
+      → AreJoined tidies formula parities s (all_told s (unit_parity_events k (u ∷ units))) k (u ∷ units)
   one_more u units k s free is rest = record {
     search = rest.search;
     clauses = rest.clauses;
@@ -172,8 +172,8 @@ module _ (formula : Problem) (parities : List (List Literal)) where
       at : get (all_told s (unit_parity_events k (u ∷ units))).moment.tables.parities k ≡ Some (alone u)
       at = rest.low k (omega arith) ∙ put_same s.moment.tables.parities k (literals (integer_of u.literal ∷ [])) ∙ ap Some (unit_back u is.within)
 
-  pub join : (units : List UnitClause) (k : ℕ) (s : Search) → IsSearch formula parities s → AllByRecursion (IsUnitIn formula.variables s.moment.tables.clauses) units → ((n : ℕ) → k ≤ n → get s.moment.tables.parities n ≡ None)
-      → s.moment.awaits ≡ false → AreJoined formula parities s (all_told s (unit_parity_events k units)) k units
+  pub join : (units : List UnitClause) (k : ℕ) (s : Search) → IsSearchIn tidies formula parities s → AllByRecursion (IsUnitIn formula.variables s.moment.tables.clauses) units → ((n : ℕ) → k ≤ n → get s.moment.tables.parities n ≡ None)
+      → s.moment.awaits ≡ false → AreJoined tidies formula parities s (all_told s (unit_parity_events k units)) k units
   join [] k s ok all free served = record {
     search = ok;
     clauses = refl;
@@ -227,8 +227,8 @@ none_left_true c (l ∷ failed) all short =
 
 -- ---- the row without them ends the log
 -- before the last steps: the engine's parities are under their numbers, and ids from k on are free for sums, n for a clause
-pub record IsReadyToEnd (formula : Problem) (theirs : List (List Literal)) (marks k n : ℕ) (s : Search) : Type 0 where
-  pub search : IsSearch formula theirs s
+pub record IsReadyToEnd (tidies : Bool) (formula : Problem) (theirs : List (List Literal)) (marks k n : ℕ) (s : Search) : Type 0 where
+  pub search : IsSearchIn tidies formula theirs s
   pub below : length theirs < k
   pub numbered : AreNumbered s.moment.tables.parities theirs
   pub sums : HasFreeSums (length theirs) s.moment
@@ -244,7 +244,7 @@ pub record IsLeftOfRow (formula : Problem) (theirs : List (List Literal)) (sourc
   pub sums : normal_form left ≡ sum_of (map normal_form (numbered theirs sources) ++ map normal_form (map alone units))
   pub ends : is_ending formula.constraints left ≡ true
 
-module _ (formula : Problem) (theirs : List (List Literal)) (marks k n : ℕ) (s : Search) (ready : IsReadyToEnd formula theirs marks k n s) (sources : List ℕ) (units : List UnitClause) (left : List Literal)
+module _ {tidies : Bool} (formula : Problem) (theirs : List (List Literal)) (marks k n : ℕ) (s : Search) (ready : IsReadyToEnd tidies formula theirs marks k n s) (sources : List ℕ) (units : List UnitClause) (left : List Literal)
     (row : IsLeftOfRow formula theirs sources units left) (are : AllByRecursion (IsUnitIn formula.variables s.moment.tables.clauses) units) where
   abbrev zs : List ℤ
   zs = integers_of left
@@ -255,8 +255,8 @@ module _ (formula : Problem) (theirs : List (List Literal)) (marks k n : ℕ) (s
   abbrev s1 : Search
   s1 = all_told s (unit_parity_events k units)
 
-  joined : AreJoined formula theirs s s1 k units
-  joined = join formula theirs units k s ready.search are (λ m h. ready.sums m (let few = ready.below in omega (arith, h, few))) ready.served
+  joined : AreJoined tidies formula theirs s s1 k units
+  joined = join tidies formula theirs units k s ready.search are (λ m h. ready.sums m (let few = ready.below in omega (arith, h, few))) ready.served
 
   left_back : literals zs ≡ left
   left_back = literals_are formula.variables left row.within
@@ -277,7 +277,7 @@ module _ (formula : Problem) (theirs : List (List Literal)) (marks k n : ℕ) (s
   abbrev s2 : Search
   s2 = told s1 (Step (Parity (k + length units) zs ids))
 
-  s2_is : IsSearch formula theirs s2
+  s2_is : IsSearchIn tidies formula theirs s2
   s2_is = live_sum_keeps formula theirs s1 joined.search (k + length units) zs ids (record { within = variables_are_within formula.variables left row.within; free = joined.free (k + length units) (omega arith) }) all_are_live sums
 
   sum_there : get s2.moment.tables.parities (k + length units) ≡ Some (literals zs)
@@ -310,16 +310,17 @@ module _ (formula : Problem) (theirs : List (List Literal)) (marks k n : ℕ) (s
   end_for : EndsFor formula (all_told s1 both).events (negations left)
   end_for = record { ended = ended; last = λ apart. (s2.events, ClauseOfParity n zs (k + length units), refl, ap negations (sym left_back)) }
 
-  left_is_bounded : additions s.events + length units + 2 ≤ most_additions formula marks → IsBounded formula marks (all_told s1 both).events
-  left_is_bounded few =
+  left_is_bounded : (tidies ≡ false → additions s.events + length units + 2 ≤ most_additions formula marks) → IsBoundedIn tidies formula marks (all_told s1 both).events
+  left_is_bounded few = bounded_in tidies formula marks (all_told s1 both).events (λ plain.
+      let room = few plain in
       let two : additions (all_told s1 both).events ≡ additions s1.events + 2 = told_adds s1 both in
       let join = told_adds s (unit_parity_events k units) in
       let parities = parities_of_units_add k units in
-      omega (arith, two, join, parities, few)
+      omega (arith, two, join, parities, room))
 
-  pub left_ends : additions s.events + length units + 2 ≤ most_additions formula marks → (told_ : Option (List LogEvent)) → AreTold told_ s.events → IsEndedWith formula marks (negations left) (with_events (short_row_events k sources units left n) told_)
+  pub left_ends : (tidies ≡ false → additions s.events + length units + 2 ≤ most_additions formula marks) → (told_ : Option (List LogEvent)) → AreTold told_ s.events → IsEndedWith tidies formula marks (negations left) (with_events (short_row_events k sources units left n) told_)
   left_ends few None a = tt
-  left_ends few (Some es) a = subst (λ xs. IsEndedWith formula marks (negations left) (Some xs))
+  left_ends few (Some es) a = subst (λ xs. IsEndedWith tidies formula marks (negations left) (Some xs))
       (ap (λ (x : Search). x.events) (sym (told_then (unit_parity_events k units) both s)) ∙ sym (all_told_are (short_row_events k sources units left n) s (Some es) a)) (end_for, is_marked, row_clause_is_scheduled formula theirs s2 s2_is n zs (k + length units), row_clause_is_hinted formula theirs s2 s2_is n zs (k + length units), left_is_bounded few)
 
 -- ---- how many literals a row has
@@ -342,8 +343,8 @@ few_literals : (n : ℕ) (lits : List Literal) → Rises 1 (variables lits) → 
 few_literals n lits r w = elim (rising_count 1 n lits r w) [ inl h ↦ omega (arith, h) | inr none ↦ omega (arith, none) ]
 
 -- ---- what is left when the units that were told are taken out
-module _ (formula : Problem) (c : SearchState) (e : State) (rows : List (List Literal)) (s : Search) (ok : IsSearch formula e.parities s) (t : Ties formula c e rows s) where
-  pub ready_to_end : IsReadyToEnd formula e.parities c.conflicts (length formula.constraints + 1) (first_row_id c.next + length rows) s
+module _ (formula : Problem) (c : SearchState) (e : State) (rows : List (List Literal)) (s : Search) (ok : IsSearchIn c.tidies formula e.parities s) (t : Ties formula c e rows s) where
+  pub ready_to_end : IsReadyToEnd c.tidies formula e.parities c.conflicts (length formula.constraints + 1) (first_row_id c.next + length rows) s
   ready_to_end = record {
     search = ok;
     below = let few = t.engine.few in omega (arith, few);

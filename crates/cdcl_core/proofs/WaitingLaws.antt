@@ -29,7 +29,7 @@ use Rattle.search_steps.specs.Ids.{IsRanged, ReasonsBelow, AreRowIds}
 use Rattle.tidy_rules.specs.Tidied.{HasTwo}
 use Rattle.tidy_rules.proofs.OneLaws.{not_two}
 use Rattle.search_steps.specs.Quiet.{HasTrue}
-use Rattle.search_steps.specs.Search.{Search, IsSearch, forced_on}
+use Rattle.search_steps.specs.Search.{Search, IsSearchIn, forced_on}
 use Rattle.search_steps.specs.Size.{additions}
 use Rattle.search_steps.specs.Tied.{IsTied, ForcesOn}
 use Rattle.search_steps.specs.Trail.{Entry, by_clause, held, level_of}
@@ -240,7 +240,7 @@ module _ (formula : Problem) (engines : List (List Literal)) (c : SearchState) (
         free = next_is_free formula (first_row_id c.next) c.next (first_row_id c.next) search ties.ranged (omega arith);
         served = ties.served.served;
         conflicts = ties.no_conflict ∙ sym ties.conflicts;
-        few_additions = let told = ties.few_additions in let all = few_clauses formula.constraints in omega (arith, told, all);
+        few_additions = λ _. let told = ties.few_additions in let all = few_clauses formula.constraints in omega (arith, told, all);
       },
     ),
   )
@@ -253,7 +253,7 @@ module _ (formula : Problem) (engines : List (List Literal)) (c : SearchState) (
     abbrev after : Search
     after = forced_on search u.literal (by_clause u.number)
 
-    keeps : IsSearch formula engines after × IsTied after.trail (pushed c.trail c.trail.level u.literal why).entries
+    keeps : IsSearchIn c.tidies formula engines after × IsTied after.trail (pushed c.trail c.trail.level u.literal why).entries
     keeps = clause_step_keeps formula engines search st.1 c.trail ties.follows u.literal why is_open u.number clause (let none = ties.no_level in omega (arith, none)) live (one_forces c.trail.entries clause u.literal single.0.same)
 
     head_covers : HasTrue (held 0 after.trail) clause
@@ -379,7 +379,7 @@ module _ (formula : Problem) (few : length formula.constraints ≤ 4294967295) (
   pub filled_stands : IsFilled formula c units None → SearchStandsBut formula engines c units told
   filled_stands f = (
     b.0,
-    b.1.search,
+    b.1.search c.tidies,
     b.2,
     record {
       follows = record { tied = subst (λ es. IsTied es c.trail.entries) (sym b.1.no_trail) (ap (λ t. t.entries) f.trail); sound = empty_is_sound c.trail f.trail };
@@ -427,13 +427,13 @@ module _ (formula : Problem) (few : length formula.constraints ≤ 4294967295) (
       b.2,
       record {
         parities = engines;
-        search = b.1.search;
+        search = b.1.search c.tidies;
         hinted = unit_hints_are_right b.0.moment.tables.clauses c.next c b.0.trail (no_unit b.0.moment.tables.clauses c.next c.trail b.0.trail c.units.items b.1.no_trail f.no_units (ap (λ t. t.level) f.trail)) [] number hints
             (record { clause = []; live = b.1.clauses.numbered number f.empty_is.0 f.empty_is.1 ∙ ap Some f.empty_is.2; same = refl }) are [] (λ m has. absurd (true≢false (sym has)));
         free = ap (get b.0.moment.tables.clauses) f.next ∙ b.1.no_more (length (clauses_of formula.constraints) + 1) (omega arith);
         served = b.1.tidy.served;
         conflicts = b.1.no_conflict ∙ sym f.conflicts;
-        few_additions = let told = given_adds_few in let all = few_clauses formula.constraints in omega (arith, told, all);
+        few_additions = λ _. let told = given_adds_few in let all = few_clauses formula.constraints in omega (arith, told, all);
       },
     ),
   )
@@ -528,20 +528,21 @@ module _ (formula : Problem) (engines : List (List Literal)) (c : SearchState) (
     pub begun_stands : length formula.constraints ≤ 4294967295 → AreEngines formula engines → SearchStands formula c e [] told
     begun_stands few are = (
       st.0,
-      subst (λ ps. IsSearch formula ps st.0) (sym theirs) st.1,
+      subst (λ ps. IsSearchIn c.tidies formula ps st.0) (sym theirs) st.1,
       st.2,
       record {
-        log = subst (λ ps. LogTies formula ps c.next (first_row_id c.next) [] st.0) (sym theirs) (record {
+        log = subst (λ ps. LogTies c.tidies formula ps c.next (first_row_id c.next) [] st.0) (sym theirs) (record {
           ranged = subst (λ r. IsRanged formula (first_row_id c.next) c.next r st.0.trail st.0.moment) (let z : first_row_id c.next ≡ first_row_id c.next + 0 = omega arith in z) st.3.ranged;
           sums = st.3.sums;
           numbered = st.3.parities.numbered;
           rows_told = λ i less. absurd (omega (arith, less));
           few_rows = omega arith;
-          few_additions = let told = st.3.few_additions in let next = st.3.next in omega (arith, told, next);
+          few_additions = λ _. let told = st.3.few_additions in let next = st.3.next in omega (arith, told, next);
           none_at_0 = st.3.clauses.none_before;
           served = st.3.served;
         });
         clauses = clauses_then;
+        learned = λ r live learned. absurd (true≢false (sym learned ∙ (st.3.stored r live).original));
         trail = record { follows = st.3.follows; variables = st.3.variables; stand = st.3.stand; phased = st.3.phases };
         units = st.3.units;
         engine = record {

@@ -6,7 +6,7 @@ use Rattle.parity_engine.specs.State.{State}
 use Rattle.parity_engine.specs.declared.state.Mood.TheVariants.{Broken}
 use Rattle.cdcl_search.specs.declared.state.SearchState.{SearchState}
 use Rattle.cdcl_search.specs.Ties.{SearchStands}
-use Rattle.cdcl_core.specs.Results.{Refutes}
+use Rattle.cdcl_core.specs.Results.{RefutesIn}
 
 -- the search is at level 0, with no counted conflict
 pub record IsAtStart (formula : Problem) (told : Option (List LogEvent)) (c : SearchState) (e : State) : Type 0 where
@@ -18,4 +18,4 @@ pub record IsAtStart (formula : Problem) (told : Option (List LogEvent)) (c : Se
 -- the search is at its start with this engine; or the log is ended with no mark
 abbrev pub SearchBegins : {P : Type 0} → (P → State) → Problem → Option (List LogEvent) → SearchState → Option P → Type 0
 SearchBegins state formula told c (Some engine) = IsAtStart formula told c (state engine)
-SearchBegins state formula told c None = Refutes formula 1 told []
+SearchBegins state formula told c None = RefutesIn c.tidies formula 1 told []

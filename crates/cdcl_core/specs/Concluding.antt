@@ -1,5 +1,5 @@
 -- What a conflict comes to.
-use Rattle.std.specs.Prelude.{◌≡◌, ℕ, ◌+◌, ◌<◌, ◌≤◌, ℤ, List, [], ◌∷◌, length, Option, Some, None, Result, OnOk, IfOk, IsFalse, IsTrue, ◌≢◌}
+use Rattle.std.specs.Prelude.{◌≡◌, ℕ, ◌+◌, ◌<◌, ◌≤◌, ℤ, Bool, false, List, [], ◌∷◌, length, Option, Some, None, Result, OnOk, IfOk, IsFalse, IsTrue, ◌≢◌}
 use Rattle.std.specs.List.{AllByRecursion}
 use Rattle.cx_base.specs.Assumptions.{clashes, IsFailed}
 use Rattle.cx_base.specs.Problem.{Problem, Unmet}
@@ -15,9 +15,9 @@ use Rattle.parity_engine.specs.State.{State}
 use Rattle.parity_engine.specs.declared.state.Mood.TheVariants.{Broken}
 use Rattle.search_steps.specs.Holding.{AreTold}
 use Rattle.search_steps.specs.Hints.{AreHintsFor, AreHinted}
-use Rattle.search_steps.specs.Schedule.{IsScheduled}
-use Rattle.search_steps.specs.Search.{Search, IsSearch}
-use Rattle.search_steps.specs.Size.{additions, most_additions, IsBounded}
+use Rattle.search_steps.specs.Schedule.{IsScheduledIn}
+use Rattle.search_steps.specs.Search.{Search, IsSearchIn}
+use Rattle.search_steps.specs.Size.{additions, most_additions}
 use Rattle.cx_trail.specs.Sequence.{IsFalseIn}
 use Rattle.step_text.specs.declared.sink.Sink as sink
 use Rattle.parity_engine.specs.declared.engine.ParityEngine as engine
@@ -33,7 +33,7 @@ use Rattle.cdcl_search.specs.Explaining.{IsReasonOf}
 use Rattle.cdcl_search.specs.Finds.{IsClash}
 use Rattle.cdcl_search.specs.Units.{AreUnitsAnd}
 use Rattle.conflict_learn.specs.Learning.{IsAntecedent}
-use Rattle.cdcl_core.specs.Results.{Refutes, EndsFor}
+use Rattle.cdcl_core.specs.Results.{RefutesIn, EndsFor, IsBoundedIn}
 use Rattle.cdcl_core.specs.Shortening.{AreShort}
 use Rattle.cdcl_core.specs.declared.conflicts.Conclusion.{Conclusion}
 use Rattle.cdcl_core.specs.declared.conflicts.Conflict.{Conflict}
@@ -51,17 +51,17 @@ pub record IsAtConflict {P L : Type 0} (p : engine.Ghosts P) (m : sink.Ghosts L 
   pub above : 0 < c.trail.level
 
 -- the log is ended with these failed assumptions, and marked this often, learned clauses are deleted on schedule, the hints are right, and it adds few clauses and parities for its marks
-abbrev pub IsEndedWith : Problem → ℕ → List Literal → Option (List LogEvent) → Type 0
-IsEndedWith formula marks failed None = Unit {0}
-IsEndedWith formula marks failed (Some events) = EndsFor formula events failed × Marked formula events marks × IsScheduled events × AreHinted events × IsBounded formula marks events
+abbrev pub IsEndedWith : Bool → Problem → ℕ → List Literal → Option (List LogEvent) → Type 0
+IsEndedWith tidies formula marks failed None = Unit {0}
+IsEndedWith tidies formula marks failed (Some events) = EndsFor formula events failed × Marked formula events marks × IsScheduledIn tidies events × AreHinted events × IsBoundedIn tidies formula marks events
 
 -- telling these steps ends the log, with these failed assumptions; so no values meet the formula
-pub record EndsLog (formula : Problem) (marks : ℕ) (told : Option (List LogEvent)) (failed : List Literal) (steps : List LogStep) : Type 0 where
+pub record EndsLog (formula : Problem) (c : SearchState) (told : Option (List LogEvent)) (failed : List Literal) (steps : List LogStep) : Type 0 where
   pub texts : AllByRecursion IsTellable steps
   pub unmet : Unmet formula
   pub fails : IsFailed formula failed
   pub apart : IsFalse (clashes formula.constraints)
-  pub log : IsEndedWith formula marks failed (with_events (as_events steps) told)
+  pub log : IsEndedWith c.tidies formula c.conflicts failed (with_events (as_events steps) told)
 
 -- the clause of a conflict has an id that a step may have, and at most one clause of a row was told for it
 abbrev pub IsTold : Conflict → Type 0
@@ -75,13 +75,13 @@ pub record IsToldRow (c : SearchState) (clause : List Literal) (k : Conflict) : 
   pub told : IsTold k
 
 -- Up to an answer the end is told: no values meet the formula, and the log shows it, marked no more often than before. The answer is the assumptions that fail. The log goes on.
-pub record TellsEnd {L : Type 0} (m : sink.Ghosts L LogEvent) (old : SearchLog L) (marks : ℕ) (new : SearchLog L) (result : Result (List Literal) CoreFault) : Type 0 where
-  pub refutes : IfOk result (λ failed. Refutes new.formula.now (marks + 1) (told_in m new) failed)
+pub record TellsEnd {L : Type 0} (m : sink.Ghosts L LogEvent) (old : SearchLog L) (c : SearchState) (new : SearchLog L) (result : Result (List Literal) CoreFault) : Type 0 where
+  pub refutes : IfOk result (λ failed. RefutesIn c.tidies new.formula.now (c.conflicts + 1) (told_in m new) failed)
   pub log : GoesOn m old (fault_in result) new
 
 -- so it is with the empty clause, where none fails
-pub record TellsEmpty {L T : Type 0} (m : sink.Ghosts L LogEvent) (old : SearchLog L) (marks : ℕ) (new : SearchLog L) (result : Result T CoreFault) : Type 0 where
-  pub refutes : OnOk result (Refutes new.formula.now (marks + 1) (told_in m new) [])
+pub record TellsEmpty {L T : Type 0} (m : sink.Ghosts L LogEvent) (old : SearchLog L) (c : SearchState) (new : SearchLog L) (result : Result T CoreFault) : Type 0 where
+  pub refutes : OnOk result (RefutesIn c.tidies new.formula.now (c.conflicts + 1) (told_in m new) [])
   pub log : GoesOn m old (fault_in result) new
 
 -- the row is not met; or it implied the literal that contradicts an assumed one
@@ -97,7 +97,7 @@ IsClauseAgainst c rows (Some l) clause n = IsSourcedBy c rows clause n × IsAnte
 -- such a clause, or steps that end the log, where what fails has no unit clause of level 0
 abbrev pub Concludes : Problem → SearchState → State → Option (List LogEvent) → Option Literal → Conclusion → Type 0
 Concludes formula c e told kept (Clause k) = SearchStands formula c e k.rows.items told × IsClauseAgainst c k.rows.items kept k.lits k.id × IsTold k
-Concludes formula c e told kept (Ending n) = SearchStands formula c e [] told × EndsLog formula c.conflicts told n.failed n.steps.items × AreShort c kept n.failed
+Concludes formula c e told kept (Ending n) = SearchStands formula c e [] told × EndsLog formula c told n.failed n.steps.items × AreShort c kept n.failed
 
 -- it is a clause, and not steps that end the log
 abbrev pub IsByClause : Conclusion → Type 0
@@ -115,15 +115,15 @@ pub record ConcludesOn {P L : Type 0} (p : engine.Ghosts P) (m : sink.Ghosts L L
   pub concludes : IfOk result (λ k. Concludes new.formula.now c (p.state e) (told_in m new) kept k)
   pub log : GoesOn m old (fault_in result) new
 
--- The hints are right for the empty clause, and that may have the next id. There is room for it in the log.
+-- The hints are right for the empty clause, and that may have the next id. There is room for it in the log of a search that does not tidy.
 pub record IsContradicted (formula : Problem) (c : SearchState) (hints : List ℤ) (s : Search) : Type 0 where
   pub parities : List (List Literal)
-  pub search : IsSearch formula parities s
+  pub search : IsSearchIn c.tidies formula parities s
   pub hinted : AreHintsFor s.moment.tables.clauses [] hints
   pub free : get s.moment.tables.clauses c.next ≡ None
   pub served : IsFalse s.moment.awaits
   pub conflicts : s.conflicts ≡ c.conflicts
-  pub few_additions : additions s.events < most_additions formula c.conflicts
+  pub few_additions : c.tidies ≡ false → additions s.events < most_additions formula c.conflicts
 
 -- so they are after what was told
 abbrev pub IsRefutedBy : Problem → SearchState → List ℤ → Option (List LogEvent) → Type 0

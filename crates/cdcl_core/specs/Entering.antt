@@ -32,6 +32,7 @@ pub record IsPut (old new : SearchState) (l : Literal) (reason : Reason) : Type 
   pub conflicts : new.conflicts ≡ old.conflicts
   pub learned : new.learned ≡ old.learned
   pub reductions : new.reductions ≡ old.reductions
+  pub tidies : new.tidies ≡ old.tidies
 
 -- the id is that of the literal's unit clause
 pub record EntersUnit (old new : SearchState) (l : Literal) (id : ℕ) : Type 0 where
@@ -53,9 +54,10 @@ pub record EntersClause (old new : SearchState) (lits : List Literal) (l : Liter
 abbrev pub Enters : SearchState → SearchState → List Literal → ℕ → ℕ → Type 0
 Enters old new lits id lbd = ((length lits ≡ 1) × EntersUnit old new (literal_at lits 0) id) ⊎ ((2 ≤ length lits) × EntersClause old new lits (literal_at lits 0) id lbd)
 
--- the counts and the next id are the same
+-- the counts and the next id are the same, and it tidies as before
 pub record HasCounts (now was : SearchState) : Type 0 where
   pub next : now.next ≡ was.next
   pub conflicts : now.conflicts ≡ was.conflicts
   pub learned : now.learned ≡ was.learned
   pub reductions : now.reductions ≡ was.reductions
+  pub tidies : now.tidies ≡ was.tidies

@@ -29,6 +29,7 @@ pub record IsEmpty (variables : ℕ) (c : SearchState) : Type 0 where
   pub conflicts : c.conflicts ≡ 0
   pub none_learned : c.learned ≡ 0
   pub not_reduced : c.reductions ≡ 0
+  pub never_tidies : c.tidies ≡ false
 
 -- the k-th clause of the formula, from 1
 abbrev pub clause_number : Problem → ℕ → List Literal
@@ -68,6 +69,7 @@ pub record IsFilledUpTo (formula : Problem) (n : ℕ) (c : SearchState) (units :
   pub conflicts : c.conflicts ≡ 0
   pub none_learned : c.learned ≡ 0
   pub not_reduced : c.reductions ≡ 0
+  pub never_tidies : c.tidies ≡ false
   pub stored : (r : ℕ) → IsLive c.arena r → IsTakenAt formula n c.arena r
   pub apart : (r q : ℕ) → IsLive c.arena r → IsLive c.arena q → id_at c.arena r ≡ id_at c.arena q → r ≡ q
   pub units_are : AllByRecursion (λ u. IsUnitClause formula u.number u.literal × (1 ≤ u.literal.variable) × (u.literal.variable ≤ formula.variables)) units
@@ -105,3 +107,4 @@ pub record Attaches (old new : SearchState) (lits : List Literal) (number : ℕ)
   pub conflicts : new.conflicts ≡ old.conflicts
   pub learned : new.learned ≡ old.learned
   pub reductions : new.reductions ≡ old.reductions
+  pub tidies : new.tidies ≡ old.tidies

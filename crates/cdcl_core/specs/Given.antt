@@ -1,5 +1,5 @@
 -- What the engine is given: the formula's parities, and after them those that are recovered from its clauses.
-use Rattle.std.specs.Prelude.{◌≡◌, ℕ, ◌+◌, ◌<◌, ◌≤◌, false, List, [], length, None, Option}
+use Rattle.std.specs.Prelude.{◌≡◌, ℕ, ◌+◌, ◌<◌, ◌≤◌, Bool, false, List, [], length, None, Option}
 use Rattle.std.specs.List.{AllByRecursion}
 use Rattle.cx_base.specs.Literals.{Literal}
 use Rattle.cx_base.specs.Problem.{Problem, AreWithin, clauses_of}
@@ -8,13 +8,13 @@ use Rattle.cx_semantics.specs.Tables.{get}
 use Rattle.search_steps.specs.Holding.{AreTold}
 use Rattle.search_steps.specs.Ids.{HasFreeSums}
 use Rattle.search_steps.specs.Laws.{HaveTheirs}
-use Rattle.search_steps.specs.Search.{Search, IsSearch, IsTidy}
+use Rattle.search_steps.specs.Search.{Search, IsSearchIn, IsTidy}
 use Rattle.search_steps.specs.Size.{additions}
 use Rattle.cdcl_core.specs.Originals.{AreListedFromOne}
 
 -- The formula's clauses and these parities are under their numbers, nothing else is told, and no literal is on the trail.
 pub record IsGiven (formula : Problem) (parities : List (List Literal)) (s : Search) : Type 0 where
-  pub search : IsSearch formula parities s
+  pub search : (tidies : Bool) → IsSearchIn tidies formula parities s
   pub clauses : AreListedFromOne s.moment.tables.clauses (clauses_of formula.constraints)
   pub no_more : (n : ℕ) → length (clauses_of formula.constraints) < n → get s.moment.tables.clauses n ≡ None
   pub listed : AreListedFromOne s.moment.tables.parities parities

@@ -14,7 +14,7 @@ use Rattle.conflict_learn.specs.Touching.{AreTouched}
 use Rattle.conflict_learn.specs.declared.learning.Learned.{Learned}
 use Rattle.parity_engine.specs.State.{State}
 use Rattle.search_steps.specs.Hints.{AreHintsFor}
-use Rattle.search_steps.specs.Search.{Search, IsSearch, IsLearnedOf}
+use Rattle.search_steps.specs.Search.{Search, IsSearchIn, IsLearnedOf}
 use Rattle.search_steps.specs.LogSteps.{after_round}
 use Rattle.search_steps.specs.Holding.{AreTold}
 use Rattle.cdcl_search.specs.declared.state.SearchState.{SearchState}
@@ -32,7 +32,7 @@ pub record ArePlaced (trail : TrailState) (lits : List Literal) (back : ℕ) : T
 
 -- The search is before the mark. The clause is asserting by its first literal and is no ending clause, and there is an id for it and a number for its mark.
 pub record IsTaught (formula : Problem) (c : SearchState) (e : State) (lits : List Literal) (back : ℕ) (s : Search) : Type 0 where
-  pub search : IsSearch formula e.parities s
+  pub search : IsSearchIn c.tidies formula e.parities s
   pub rows : List (List Literal)
   pub ties : Ties formula c e rows s
   pub watched : IsWatched c.watches c.arena c.trail

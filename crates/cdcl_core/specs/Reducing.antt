@@ -12,7 +12,7 @@ use Rattle.step_text.specs.declared.sink.Sink as sink
 use Rattle.parity_engine.specs.State.{State}
 use Rattle.parity_engine.specs.declared.engine.ParityEngine as engine
 use Rattle.search_steps.specs.Schedule.{IsInReduction}
-use Rattle.search_steps.specs.Search.{Search, IsSearch}
+use Rattle.search_steps.specs.Search.{Search, IsSearchIn}
 use Rattle.search_steps.specs.Holding.{AreTold}
 use Rattle.cdcl_search.specs.declared.state.SearchState.{SearchState}
 use Rattle.cdcl_search.specs.declared.logs.SearchLog.{SearchLog}
@@ -27,7 +27,7 @@ pub record WasWatched (w : WatchState) (a : ArenaState) (t : TrailState) : Type 
 
 -- a search at level 0 fits the code but for the watches: removed clauses are still attached, and this reduction is counted already and due
 abbrev pub SearchLoses : Problem → SearchState → State → Option (List LogEvent) → Type 0
-SearchLoses formula c e told = (s : Search) × IsSearch formula e.parities s × AreTold told s.events × Ties formula c e [] s × WasWatched c.watches c.arena c.trail × (s.moment.reductions < c.reductions) × IsInReduction s.events
+SearchLoses formula c e told = (s : Search) × IsSearchIn c.tidies formula e.parities s × AreTold told s.events × Ties formula c e [] s × WasWatched c.watches c.arena c.trail × (s.moment.reductions < c.reductions) × IsInReduction s.events
 
 -- so it fits what the log was told; each literal of the trail has a unit clause, and the sink has not failed
 pub record IsReducing {P L : Type 0} (p : engine.Ghosts P) (m : sink.Ghosts L LogEvent) (log : SearchLog L) (c : SearchState) (e : P) : Type 0 where
@@ -35,10 +35,11 @@ pub record IsReducing {P L : Type 0} (p : engine.Ghosts P) (m : sink.Ghosts L Lo
   pub units : length c.units.items ≡ length c.trail.entries
   pub going : HasNotFailed m log
 
--- Up to an answer the reduction goes on, with as many counted conflicts; the log goes on.
+-- Up to an answer the reduction goes on, with as many counted conflicts, and it tidies as before; the log goes on.
 pub record ReducesOn {P L T : Type 0} (p : engine.Ghosts P) (m : sink.Ghosts L LogEvent) (old : SearchLog L) (c : SearchState) (new : SearchLog L) (now : SearchState) (e : P) (result : Result T CoreFault) : Type 0 where
   pub reducing : OnOk result (IsReducing p m new now e)
   pub conflicts : now.conflicts ≡ c.conflicts
+  pub tidies : now.tidies ≡ c.tidies
   pub log : GoesOn m old (fault_in result) new
 
 -- the clause was learned, and so many learned ones are left that it may go

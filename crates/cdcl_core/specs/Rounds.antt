@@ -13,7 +13,7 @@ use Rattle.cdcl_search.specs.declared.state.SearchState.{SearchState}
 use Rattle.cdcl_search.specs.declared.logs.SearchLog.{SearchLog}
 use Rattle.cdcl_search.specs.Logs.{GoesOn, HasNotFailed, Stands, told_in}
 use Rattle.cdcl_core.specs.Concluding.{SearchGoesOn}
-use Rattle.cdcl_core.specs.Results.{IsRightOutcome, IsSettledBy}
+use Rattle.cdcl_core.specs.Results.{IsRightOutcomeIn, IsSettledBy}
 use Rattle.cdcl_core.specs.declared.solving.SearchOutcome.{SearchOutcome}
 
 -- the search fits the code, with budget left and no variable marked, and the sink has not failed
@@ -24,14 +24,15 @@ pub record IsSearching {P L : Type 0} (p : engine.Ghosts P) (m : sink.Ghosts L L
   pub clear : AreClear marks
   pub going : HasNotFailed m log
 
--- Up to an answer the search goes on, and has counted one conflict more; an answer is right. No variable is marked then, and the log goes on.
+-- Up to an answer the search goes on as before, and has counted one conflict more; an answer is right. No variable is marked then, and the log goes on.
 pub record LeavesRound {P L : Type 0} (p : engine.Ghosts P) (m : sink.Ghosts L LogEvent) (budget : ℕ) (old : SearchLog L) (c : SearchState) (new : SearchLog L) (now : SearchState) (e : P) (a : Assumptions) (marks : List Bool) (result : Result (Option SearchOutcome) CoreFault) : Type 0 where
-  pub goes_on : IfOk result (λ o. MatchOption o (SearchGoesOn new.formula.now budget (told_in m new) now (p.state e)) (λ a. IsRightOutcome new.formula.now budget (told_in m new) a))
+  pub goes_on : IfOk result (λ o. MatchOption o (SearchGoesOn new.formula.now budget (told_in m new) now (p.state e)) (λ a. IsRightOutcomeIn c.tidies new.formula.now budget (told_in m new) a))
   pub one_more : IfOk result (λ o. MatchOption o (now.conflicts ≡ c.conflicts + 1) (λ _. Unit {0}))
+  pub tidies : IfOk result (λ o. MatchOption o (now.tidies ≡ c.tidies) (λ _. Unit {0}))
   pub keeps : IfOk result (λ o. MatchOption o (KeepsAssumptions new.formula.now.constraints a now.trail) (λ _. Unit {0}))
   pub clear : OnOk result (AreClear marks)
   pub log : GoesOn m old (fault_in result) new
 
 -- where no fault comes there is an answer, never unknown, with at most this many marks
-abbrev pub IsSettledIn : Problem → ℕ → Option (List LogEvent) → Result (Option SearchOutcome) CoreFault → Type 0
-IsSettledIn formula marks told result = IfOk result (λ o. MatchOption o ⊥ (λ a. IsSettledBy formula (marks + 1) told a))
+abbrev pub IsSettledIn : Bool → Problem → ℕ → Option (List LogEvent) → Result (Option SearchOutcome) CoreFault → Type 0
+IsSettledIn tidies formula marks told result = IfOk result (λ o. MatchOption o ⊥ (λ a. IsSettledBy tidies formula (marks + 1) told a))

@@ -9,7 +9,7 @@ use Rattle.clause_arena.specs.Clauses.{IsLive, id_at}
 use Rattle.search_policy.specs.Standing.{AllStand}
 use Rattle.search_steps.specs.Holding.{AreTold}
 use Rattle.search_steps.specs.Ids.{IsRanged, HasFreeSums}
-use Rattle.search_steps.specs.Search.{Search, IsSearch}
+use Rattle.search_steps.specs.Search.{Search, IsSearchIn}
 use Rattle.search_steps.specs.Size.{additions}
 use Rattle.search_steps.specs.Tied.{Mirrors}
 use Rattle.search_steps.specs.Trail.{held}
@@ -21,7 +21,7 @@ use Rattle.cdcl_search.specs.Ties.{IsHeld, AreUnits, IsWatched, HasOnlyRowClause
 use Rattle.cdcl_core.specs.declared.filling.Single.{Single}
 use Rattle.cdcl_core.specs.Filling.{clause_number, IsUnitClause, IsTakenAt}
 use Rattle.cdcl_core.specs.Originals.{AreListedFromOne}
-use Rattle.cdcl_core.specs.Results.{Refutes}
+use Rattle.cdcl_core.specs.Results.{RefutesIn}
 
 -- one of these unit clauses has the number
 abbrev pub IsWaiting : List Single → ℕ → Type 0
@@ -64,12 +64,12 @@ pub record TiesBut (formula : Problem) (engines : List (List Literal)) (c : Sear
 
 -- some search of the calculus over these parities fits the code but for these unit clauses, and its events are the sink's where that tells them
 abbrev pub SearchStandsBut : Problem → List (List Literal) → SearchState → List Single → Option (List LogEvent) → Type 0
-SearchStandsBut formula engines c waiting told = (s : Search) × IsSearch formula engines s × AreTold told s.events × TiesBut formula engines c waiting s
+SearchStandsBut formula engines c waiting told = (s : Search) × IsSearchIn c.tidies formula engines s × AreTold told s.events × TiesBut formula engines c waiting s
 
 -- true: the search fits the code but for these unit clauses; false: the log is ended, with no mark
 abbrev pub PutsUnits : Problem → List (List Literal) → SearchState → List Single → Option (List LogEvent) → Bool → Type 0
 PutsUnits formula engines c waiting told true = SearchStandsBut formula engines c waiting told
-PutsUnits formula engines c waiting told false = Refutes formula 1 told []
+PutsUnits formula engines c waiting told false = RefutesIn c.tidies formula 1 told []
 
 -- so it is, whatever parities the search was over
 abbrev pub Puts : {L : Type 0} → sink.Ghosts L LogEvent → SearchLog L → SearchState → List Single → SearchLog L → SearchState → List Single → Bool → Type 0

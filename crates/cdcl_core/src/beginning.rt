@@ -1,5 +1,5 @@
 //! The beginning of a search.
-ghost use Rattle.std.specs.Prelude.{◌+◌, ◌<◌, ◌≤◌, [], List, length, drop, IfOk};
+ghost use Rattle.std.specs.Prelude.{◌≡◌, ◌+◌, ◌<◌, ◌≤◌, [], List, length, drop, IfOk};
 ghost use Rattle.cx_base.specs.Literals.{Literal};
 ghost use Rattle.conflict_learn.specs.Faults.{fault_in};
 ghost use Rattle.cdcl_search.specs.Logs.{GoesOn, HasNotFailed, told_in};
@@ -30,6 +30,7 @@ fn put_unit<L: Sink<Item = LogEvent>>(
     requires stands { (engines : List (List Literal)) × SearchStandsBut log.old.formula.now engines state.old (drop place units.now) (told_in L.Sink log.old) }
     requires going { HasNotFailed L.Sink log.old }
     ensures puts { IfOk result (Puts L.Sink log.old state.old (drop place units.now) log.new state.new (drop (place + 1) units.now)) }
+    ensures tidies { state.new.tidies ≡ state.old.tidies }
     ensures log { GoesOn L.Sink log.old (fault_in result) log.new }
 {
     let unit = units[place];
@@ -56,6 +57,7 @@ fn put_units<L: Sink<Item = LogEvent>>(
     requires stands { (engines : List (List Literal)) × SearchStandsBut log.old.formula.now engines state.old units.now (told_in L.Sink log.old) }
     requires going { HasNotFailed L.Sink log.old }
     ensures puts { IfOk result (Puts L.Sink log.old state.old units.now log.new state.new []) }
+    ensures tidies { state.new.tidies ≡ state.old.tidies }
     ensures log { GoesOn L.Sink log.old (fault_in result) log.new }
 {
     for place in 0..units.len() {
@@ -79,6 +81,7 @@ pub(crate) fn start<P: ParityEngine, L: Sink<Item = LogEvent>>(
     requires filled { IsFilled log.old.formula.now filled.old.state filled.old.units.items filled.old.empty }
     requires going { HasNotFailed L.Sink log.old }
     ensures begins { IfOk result (λ e. SearchBegins P.state log.new.formula.now (told_in L.Sink log.new) filled.new.state e) }
+    ensures tidies { filled.new.state.tidies ≡ filled.old.state.tidies }
     ensures log { GoesOn L.Sink log.old (fault_in result) log.new }
 {
     // `vars` tells the proof that the literals of the formula are within its variables.

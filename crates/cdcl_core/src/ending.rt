@@ -20,9 +20,9 @@ pub(crate) fn tell_ending<L: Sink<Item = LogEvent>>(
     state: &SearchState,
     ending: LogEnd,
 ) -> Result<LitList, CoreFault>
-    requires ends { EndsLog log.old.formula.now state.now.conflicts (told_in L.Sink log.old) ending.failed ending.steps.items }
+    requires ends { EndsLog log.old.formula.now state.now (told_in L.Sink log.old) ending.failed ending.steps.items }
     requires going { HasNotFailed L.Sink log.old }
-    ensures ends { TellsEnd L.Sink log.old state.now.conflicts log.new result }
+    ensures ends { TellsEnd L.Sink log.old state.now log.new result }
     ensures failed { IfOk result (λ failed. failed ≡ ending.failed) }
 {
     let LogEnd { steps, failed } = ending;
@@ -38,7 +38,7 @@ pub(crate) fn tell_empty<L: Sink<Item = LogEvent>>(
 ) -> Result<(), CoreFault>
     requires shown { IsRefutedBy log.old.formula.now state.now hints (told_in L.Sink log.old) }
     requires going { HasNotFailed L.Sink log.old }
-    ensures { TellsEmpty L.Sink log.old state.now.conflicts log.new result }
+    ensures { TellsEmpty L.Sink log.old state.now log.new result }
 {
     tell_chained(log, state.next, &[], hints)
 }
@@ -55,7 +55,7 @@ pub(crate) fn refute<L: Sink<Item = LogEvent>>(
     requires id { IsId id }
     requires shown { IsRefutable log.old.formula.now state.now lits.now id (told_in L.Sink log.old) }
     requires going { HasNotFailed L.Sink log.old }
-    ensures { TellsEmpty L.Sink log.old state.now.conflicts log.new result }
+    ensures { TellsEmpty L.Sink log.old state.now log.new result }
 {
     let hints = hints_of(log.alloc, state, lits, id)?;
     tell_empty(log, state, hints)

@@ -94,7 +94,7 @@ pub(crate) fn fail<P: ParityEngine, L: Sink<Item = LogEvent>>(
     requires told { IsTold failure.conflict }
     requires clear { AreClear marks.old }
     requires going { HasNotFailed L.Sink log.old }
-    ensures ends { TellsEnd L.Sink log.old state.now.conflicts log.new result }
+    ensures ends { TellsEnd L.Sink log.old state.now log.new result }
     ensures none { failure.kept ≡ None → state.now.trail.level ≡ 0 → IfOk result (λ failed. failed ≡ []) }
     ensures clear { OnOk result (AreClear marks.new) }
 {

@@ -53,6 +53,7 @@ fn empty_state(alloc: Global, vars: u32) -> Result<SearchState, AllocError>
         conflicts: 0,
         learned: 0,
         reductions: 0,
+        tidies: false,
     })
 }
 

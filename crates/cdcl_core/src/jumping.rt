@@ -10,7 +10,7 @@ ghost use Rattle.conflict_learn.specs.Touching.{AreTouched};
 ghost use Rattle.watch_lists.specs.Watching.{Fits};
 ghost use Rattle.watch_lists.specs.Attaching.{CanBeWatched, literal_at};
 ghost use Rattle.parity_engine.specs.declared.state.Mood.TheVariants.{Broken};
-ghost use Rattle.search_steps.specs.Search.{Search, IsSearch};
+ghost use Rattle.search_steps.specs.Search.{Search, IsSearchIn};
 ghost use Rattle.cdcl_search.specs.Ties.{Ties, IsWatched};
 ghost use Rattle.cdcl_core.specs.Learning.{Learns, StandsBehind};
 ghost use Rattle.cdcl_core.specs.Entering.{CanBePut, MayEnter, EntersUnit, EntersClause, Enters};
@@ -48,7 +48,7 @@ pub(crate) fn go_back<P: ParityEngine>(
     assumptions: &mut Assumptions,
     level: u32,
 )
-    requires stands { (rows : List (List Literal)) × (s : Search) × IsSearch formula.now (P.state engine.old).parities s × Ties formula.now state.old (P.state engine.old) rows s × IsWatched state.old.watches state.old.arena state.old.trail }
+    requires stands { (rows : List (List Literal)) × (s : Search) × IsSearchIn state.old.tidies formula.now (P.state engine.old).parities s × Ties formula.now state.old (P.state engine.old) rows s × IsWatched state.old.watches state.old.arena state.old.trail }
     requires lower { level < state.old.trail.level }
     ensures back { IsBackAt formula.now level state.old (P.state engine.old) state.new (P.state engine.new) }
     ensures keeps { (constraints : List Constraint) → KeepsAssumptions constraints assumptions.old state.old.trail → KeepsAssumptions constraints assumptions.new state.new.trail }
@@ -123,6 +123,7 @@ pub(crate) fn jump<P: ParityEngine>(
     requires touched { AreTouched state.old.trail (literals_of learned.now.resolved.items) learned.now.lits learned.now.touched.items }
     ensures stands { OnOk result (StandsBehind formula.now state.old (P.state engine.old) learned.now state.new (P.state engine.new)) }
     ensures counted { OnOk result (state.new.conflicts ≡ state.old.conflicts + 1) }
+    ensures tidies { OnOk result (state.new.tidies ≡ state.old.tidies) }
     ensures level { OnOk result (state.new.trail.level ≡ learned.now.back_level) }
     ensures unbroken { (P.state engine.new).mood ≢ Broken }
     ensures keeps { OnOk result ((constraints : List Constraint) → KeepsAssumptions constraints assumptions.old state.old.trail → KeepsAssumptions constraints assumptions.new state.new.trail) }

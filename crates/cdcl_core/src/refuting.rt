@@ -66,7 +66,7 @@ fn refute_told<P: ParityEngine, L: Sink<Item = LogEvent>>(
     requires level { state.now.trail.level ≡ 0 }
     requires clear { AreClear marks.old }
     requires going { HasNotFailed L.Sink log.old }
-    ensures ends { TellsEnd L.Sink log.old state.now.conflicts log.new result }
+    ensures ends { TellsEnd L.Sink log.old state.now log.new result }
     ensures none { IfOk result (λ failed. failed ≡ []) }
     ensures clear { OnOk result (AreClear marks.new) }
 {
@@ -106,7 +106,7 @@ fn refute_beside<P: ParityEngine, L: Sink<Item = LogEvent>>(
     requires level { state.now.trail.level ≡ 0 }
     requires clear { AreClear marks.old }
     requires going { HasNotFailed L.Sink log.old }
-    ensures ends { TellsEnd L.Sink log.old state.now.conflicts log.new result }
+    ensures ends { TellsEnd L.Sink log.old state.now log.new result }
     ensures none { IfOk result (λ failed. failed ≡ []) }
     ensures clear { OnOk result (AreClear marks.new) }
 {
@@ -138,7 +138,7 @@ fn refute_by<P: ParityEngine, L: Sink<Item = LogEvent>>(
     requires level { state.now.trail.level ≡ 0 }
     requires clear { AreClear marks.old }
     requires going { HasNotFailed L.Sink log.old }
-    ensures ends { TellsEnd L.Sink log.old state.now.conflicts log.new result }
+    ensures ends { TellsEnd L.Sink log.old state.now log.new result }
     ensures none { IfOk result (λ failed. failed ≡ []) }
     ensures clear { OnOk result (AreClear marks.new) }
 {
@@ -163,7 +163,7 @@ fn refute_ending<P: ParityEngine, L: Sink<Item = LogEvent>>(
     requires level { state.now.trail.level ≡ 0 }
     requires clear { AreClear marks.old }
     requires going { HasNotFailed L.Sink log.old }
-    ensures ends { TellsEnd L.Sink log.old state.now.conflicts log.new result }
+    ensures ends { TellsEnd L.Sink log.old state.now log.new result }
     ensures none { IfOk result (λ failed. failed ≡ []) }
     ensures clear { OnOk result (AreClear marks.new) }
 {
@@ -190,7 +190,7 @@ fn refute_row_alone<P: ParityEngine, L: Sink<Item = LogEvent>>(
     requires level { state.now.trail.level ≡ 0 }
     requires clear { AreClear marks.old }
     requires going { HasNotFailed L.Sink log.old }
-    ensures ends { TellsEnd L.Sink log.old state.now.conflicts log.new result }
+    ensures ends { TellsEnd L.Sink log.old state.now log.new result }
     ensures none { IfOk result (λ failed. failed ≡ []) }
     ensures clear { OnOk result (AreClear marks.new) }
 {
@@ -217,7 +217,7 @@ fn refute_row_beside<P: ParityEngine, L: Sink<Item = LogEvent>>(
     requires level { state.now.trail.level ≡ 0 }
     requires clear { AreClear marks.old }
     requires going { HasNotFailed L.Sink log.old }
-    ensures ends { TellsEnd L.Sink log.old state.now.conflicts log.new result }
+    ensures ends { TellsEnd L.Sink log.old state.now log.new result }
     ensures none { IfOk result (λ failed. failed ≡ []) }
     ensures clear { OnOk result (AreClear marks.new) }
 {
@@ -241,7 +241,7 @@ fn refute_row<P: ParityEngine, L: Sink<Item = LogEvent>>(
     requires level { state.now.trail.level ≡ 0 }
     requires clear { AreClear marks.old }
     requires going { HasNotFailed L.Sink log.old }
-    ensures ends { TellsEnd L.Sink log.old state.now.conflicts log.new result }
+    ensures ends { TellsEnd L.Sink log.old state.now log.new result }
     ensures none { IfOk result (λ failed. failed ≡ []) }
     ensures clear { OnOk result (AreClear marks.new) }
 {
@@ -267,7 +267,7 @@ fn refute_clause<P: ParityEngine, L: Sink<Item = LogEvent>>(
     requires level { state.now.trail.level ≡ 0 }
     requires clear { AreClear marks.old }
     requires going { HasNotFailed L.Sink log.old }
-    ensures ends { TellsEnd L.Sink log.old state.now.conflicts log.new result }
+    ensures ends { TellsEnd L.Sink log.old state.now log.new result }
     ensures none { IfOk result (λ failed. failed ≡ []) }
     ensures clear { OnOk result (AreClear marks.new) }
 {
@@ -291,7 +291,7 @@ pub(crate) fn refute<P: ParityEngine, L: Sink<Item = LogEvent>>(
     requires level { state.now.trail.level ≡ 0 }
     requires clear { AreClear marks.old }
     requires going { HasNotFailed L.Sink log.old }
-    ensures ends { TellsEnd L.Sink log.old state.now.conflicts log.new result }
+    ensures ends { TellsEnd L.Sink log.old state.now log.new result }
     ensures none { IfOk result (λ failed. failed ≡ []) }
     ensures clear { OnOk result (AreClear marks.new) }
 {

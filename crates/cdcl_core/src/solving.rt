@@ -18,7 +18,7 @@ ghost use Rattle.cdcl_core.specs.Failing.{EndsAtPlace};
 ghost use Rattle.cdcl_core.specs.Filling.{IsFilledUpTo};
 ghost use Rattle.cdcl_core.specs.Given.{AreEngines, HasGiven};
 ghost use Rattle.cdcl_core.specs.Narrowing.{Searched};
-ghost use Rattle.cdcl_core.specs.Results.{IsRightOutcome, IsFresh, IsSettledBy};
+ghost use Rattle.cdcl_core.specs.Results.{IsRightOutcome, IsRightOutcomeIn, IsFresh, IsSettledBy};
 ghost use Rattle.cdcl_core.specs.Shortening.{HasAllUnits};
 ghost use Rattle.cdcl_core.specs.Rounds.{IsSearching, LeavesRound, IsSettledIn};
 ghost use Rattle.cdcl_core.specs.declared.solving.SearchOutcome.TheVariants as outcome;
@@ -99,7 +99,7 @@ fn end<P: ParityEngine, L: Sink<Item = LogEvent>>(
     requires at { EndsAtPlace log.old.formula.now.constraints state.now.trail kept below }
     requires clear { AreClear marks.old }
     requires going { HasNotFailed L.Sink log.old }
-    ensures ends { TellsEnd L.Sink log.old state.now.conflicts log.new result }
+    ensures ends { TellsEnd L.Sink log.old state.now log.new result }
     ensures none { IsByClause conclusion ⊎ HasAllUnits state.now → kept ≡ None → state.now.trail.level ≡ 0 → IfOk result (λ failed. failed ≡ []) }
     ensures clear { OnOk result (AreClear marks.new) }
 {
@@ -135,7 +135,7 @@ fn conclude_conflict<P: ParityEngine, L: Sink<Item = LogEvent>>(
     requires settled { SettledWithRecovered log.old.formula.now → state.old.trail.level ≡ 0 }
     ensures none { state.old.trail.level ≡ 0 → IfOk result (λ o. o ≡ Some (outcome.Unsat [])) }
     ensures leaves { LeavesRound P.ParityEngine L.Sink budget log.old state.old log.new state.new engine.new assumptions.new marks.new result }
-    ensures at_start { state.old.trail.level ≡ 0 → IsSettledIn log.new.formula.now state.old.conflicts (told_in L.Sink log.new) result }
+    ensures at_start { state.old.trail.level ≡ 0 → IsSettledIn state.old.tidies log.new.formula.now state.old.conflicts (told_in L.Sink log.new) result }
 {
     let conclusion = conflict_clause(log, state, engine, found)?;
     if state.trail.level() <= assumptions.level {
@@ -170,7 +170,7 @@ fn conclude_failed<P: ParityEngine, L: Sink<Item = LogEvent>>(
     requires found { PropagationFinds state.now (P.state engine.now) found }
     requires clear { AreClear marks.old }
     requires going { HasNotFailed L.Sink log.old }
-    ensures ends { TellsEnd L.Sink log.old state.now.conflicts log.new result }
+    ensures ends { TellsEnd L.Sink log.old state.now log.new result }
     ensures none { state.now.trail.level ≡ 0 → found ≢ Quiet → IfOk result (λ failed. failed ≡ []) }
     ensures clear { OnOk result (AreClear marks.new) }
 {
@@ -196,7 +196,7 @@ fn conclude<P: ParityEngine, L: Sink<Item = LogEvent>>(
     requires reaches { SearchReaches log.old.formula.now.constraints state.old (P.state engine.old) assumptions.old reached }
     requires settled { SettledWithRecovered log.old.formula.now → state.old.trail.level ≡ 0 }
     ensures leaves { LeavesRound P.ParityEngine L.Sink budget log.old state.old log.new state.new engine.new assumptions.new marks.new result }
-    ensures at_start { state.old.trail.level ≡ 0 → IsSettledIn log.new.formula.now state.old.conflicts (told_in L.Sink log.new) result }
+    ensures at_start { state.old.trail.level ≡ 0 → IsSettledIn state.old.tidies log.new.formula.now state.old.conflicts (told_in L.Sink log.new) result }
 {
     match reached {
         Reached::Found(Found::Quiet) => {
@@ -226,7 +226,7 @@ fn round<P: ParityEngine, L: Sink<Item = LogEvent>>(
     requires unbroken { (P.state engine.old).mood ≢ Broken }
     requires settled { SettledWithRecovered log.old.formula.now → state.old.trail.level ≡ 0 }
     ensures leaves { LeavesRound P.ParityEngine L.Sink budget log.old state.old log.new state.new engine.new assumptions.new marks.new result }
-    ensures settled { SettledWithRecovered log.new.formula.now → state.old.trail.level ≡ 0 → IsSettledIn log.new.formula.now state.old.conflicts (told_in L.Sink log.new) result }
+    ensures settled { SettledWithRecovered log.new.formula.now → state.old.trail.level ≡ 0 → IsSettledIn state.old.tidies log.new.formula.now state.old.conflicts (told_in L.Sink log.new) result }
 {
     let reached = search_on(log, state, engine, assumptions)?;
     conclude(log, state, engine, assumptions, marks, budget, reached)
@@ -242,8 +242,8 @@ fn search_in_rounds<P: ParityEngine, L: Sink<Item = LogEvent>>(
     requires begins { IsAtStart log.old.formula.now (told_in L.Sink log.old) state.old (P.state engine.old) }
     requires budget { (1 ≤ budget) × (budget ≤ 10 ^ 18) }
     requires going { HasNotFailed L.Sink log.old }
-    ensures answers { IfOk result (λ a. IsRightOutcome log.new.formula.now budget (told_in L.Sink log.new) a) }
-    ensures settled { SettledWithRecovered log.new.formula.now → IfOk result (λ a. IsSettledBy log.new.formula.now 1 (told_in L.Sink log.new) a) }
+    ensures answers { IfOk result (λ a. IsRightOutcomeIn state.old.tidies log.new.formula.now budget (told_in L.Sink log.new) a) }
+    ensures settled { SettledWithRecovered log.new.formula.now → IfOk result (λ a. IsSettledBy state.old.tidies log.new.formula.now 1 (told_in L.Sink log.new) a) }
     ensures log { GoesOn L.Sink log.old (fault_in result) log.new }
 {
     let mut schedule = Schedule::new();
@@ -267,8 +267,8 @@ fn search<P: ParityEngine, L: Sink<Item = LogEvent>>(
     requires begins { IsAtStart log.old.formula.now (told_in L.Sink log.old) state.old (P.state engine.old) }
     requires budget { (1 ≤ budget) × (budget ≤ 10 ^ 18) }
     requires going { HasNotFailed L.Sink log.old }
-    ensures answers { IfOk result (λ a. IsRightOutcome log.new.formula.now budget (told_in L.Sink log.new) a) }
-    ensures settled { SettledWithRecovered log.new.formula.now → IfOk result (λ a. IsSettledBy log.new.formula.now 1 (told_in L.Sink log.new) a) }
+    ensures answers { IfOk result (λ a. IsRightOutcomeIn state.old.tidies log.new.formula.now budget (told_in L.Sink log.new) a) }
+    ensures settled { SettledWithRecovered log.new.formula.now → IfOk result (λ a. IsSettledBy state.old.tidies log.new.formula.now 1 (told_in L.Sink log.new) a) }
     ensures log { GoesOn L.Sink log.old (fault_in result) log.new }
 {
     let vars = log.formula.vars();
@@ -291,7 +291,7 @@ fn fill_and_search<P: ParityEngine + Drop, L: Sink<Item = LogEvent>>(
     requires none { IsFilledUpTo log.old.formula.now 0 filled.old.state filled.old.units.items filled.old.empty }
     requires going { HasNotFailed L.Sink log.old }
     ensures answers { IfOk result (λ a. IsRightOutcome log.new.formula.now budget (told_in L.Sink log.new) a) }
-    ensures settled { SettledWithRecovered log.new.formula.now → IfOk result (λ a. IsSettledBy log.new.formula.now 1 (told_in L.Sink log.new) a) }
+    ensures settled { SettledWithRecovered log.new.formula.now → IfOk result (λ a. IsSettledBy false log.new.formula.now 1 (told_in L.Sink log.new) a) }
     ensures log { GoesOn L.Sink log.old (fault_in result) log.new }
 {
     fill(log.alloc, log.formula, filled)?;
@@ -324,7 +324,7 @@ fn search_from_start<P: ParityEngine + Drop, L: Sink<Item = LogEvent>>(
     requires fresh { IsFresh (told_in L.Sink log.old) }
     requires going { HasNotFailed L.Sink log.old }
     ensures answers { IfOk result (λ a. IsRightOutcome log.new.formula.now budget (told_in L.Sink log.new) a) }
-    ensures settled { SettledWithRecovered log.new.formula.now → IfOk result (λ a. IsSettledBy log.new.formula.now 1 (told_in L.Sink log.new) a) }
+    ensures settled { SettledWithRecovered log.new.formula.now → IfOk result (λ a. IsSettledBy false log.new.formula.now 1 (told_in L.Sink log.new) a) }
     ensures log { GoesOn L.Sink log.old (fault_in result) log.new }
 {
     tell_originals(log)?;

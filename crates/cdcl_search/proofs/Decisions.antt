@@ -13,7 +13,7 @@ use Rattle.parity_engine.specs.State.{State}
 use Rattle.parity_engine.specs.State.{pushed as opened}
 use Rattle.search_steps.specs.Trail.{decided, all_held, level_of}
 use Rattle.search_steps.specs.Quiet.{Quiet}
-use Rattle.search_steps.specs.Search.{Search, IsSearch, decided_on}
+use Rattle.search_steps.specs.Search.{Search, IsSearchIn, decided_on}
 use Rattle.search_steps.proofs.Bridge.{level_tied, held_is_true}
 use Rattle.search_steps.proofs.CodeSteps.{decision_step_keeps}
 use Rattle.search_steps.proofs.IdLaws.{decision_ranged}
@@ -32,7 +32,7 @@ use Rattle.cdcl_search.proofs.Growing.{put, at_end, clauses_grow, units_grow, re
 use Rattle.cdcl_search.proofs.Naming.{all_fed}
 use Rattle.cdcl_search.proofs.Silence.{found_quiet}
 
-module _ (formula : Problem) (c : SearchState) (e : State) (s : Search) (ok : IsSearch formula e.parities s) (t : Ties formula c e [] s) (f : IsWatched c.watches c.arena c.trail) (finds : PropagationFinds c e found.Quiet) where
+module _ (formula : Problem) (c : SearchState) (e : State) (s : Search) (ok : IsSearchIn c.tidies formula e.parities s) (t : Ties formula c e [] s) (f : IsWatched c.watches c.arena c.trail) (finds : PropagationFinds c e found.Quiet) where
   pub is_quiet : Quiet formula.variables e.parities s.moment.tables.clauses (all_held s.trail)
   is_quiet = found_quiet formula c e s ok t f finds.0 finds.1 finds.2
 
@@ -41,6 +41,7 @@ module _ (formula : Problem) (c : SearchState) (e : State) (s : Search) (ok : Is
   reordered o stand = record {
     log = t.log;
     clauses = t.clauses;
+    learned = t.learned;
     trail = record { follows = t.trail.follows; variables = t.trail.variables; stand = stand; phased = t.trail.phased };
     units = t.units;
     engine = t.engine;
@@ -66,7 +67,7 @@ module _ (formula : Problem) (c : SearchState) (e : State) (s : Search) (ok : Is
     }
 
     pub decided_tied : IsTrail (pushed c.trail (c.trail.level + 1) l reason.Decision)
-        → IsSearch formula e.parities (decided_on s l) × Ties formula (put (record c { order = o }) (c.trail.level + 1) l reason.Decision) (opened e) [] (decided_on s l)
+        → IsSearchIn c.tidies formula e.parities (decided_on s l) × Ties formula (put (record c { order = o }) (c.trail.level + 1) l reason.Decision) (opened e) [] (decided_on s l)
     decided_tied sound =
         let kept = decision_step_keeps formula e.parities s ok c.trail t.trail.follows l reason.Decision is_open (levels_low formula c e [] s t) is_quiet in (
           kept.0,
@@ -82,6 +83,7 @@ module _ (formula : Problem) (c : SearchState) (e : State) (s : Search) (ok : Is
               served = served_alike s (decided_on s l) (first_row_id c.next) 0 refl t.log.served;
             };
             clauses = clauses_grow formula s.moment.tables.clauses c.next c.arena s.trail (record { literal = l; level = suc (level_of s.trail); why = decided }) t.clauses;
+            learned = t.learned;
             trail = record { follows = record { tied = kept.1; sound = sound }; variables = t.trail.variables; stand = stand_grows (record c { order = o }) (c.trail.level + 1) l reason.Decision o stand; phased = t.trail.phased };
             units = units_grow (record c { order = o }) (c.trail.level + 1) l reason.Decision s.moment.tables.clauses c.next s.trail (record { literal = l; level = suc (level_of s.trail); why = decided }) c.units.items t.units (λ _ i past less. above i past less);
             engine = record { vars = t.engine.vars; wide = t.engine.wide; theirs = t.engine.theirs; few = t.engine.few; fed = fed_now };

@@ -13,7 +13,7 @@ use Rattle.cx_semantics.specs.Marked.{without, is_among, is_covered_without, cla
 use Rattle.cx_semantics.specs.Tables.{get}
 use Rattle.parity_engine.specs.State.{State}
 use Rattle.search_steps.specs.Trail.{level_of, held}
-use Rattle.search_steps.specs.Search.{Search, IsSearch, told}
+use Rattle.search_steps.specs.Search.{Search, IsSearchIn, told}
 use Rattle.search_steps.specs.LogSteps.{AreTemporary, deleted, all_told}
 use Rattle.search_steps.specs.Holding.{AreTold}
 use Rattle.search_steps.specs.Ids.{IsRanged}
@@ -26,7 +26,7 @@ use Rattle.std.specs.Prelude.{if◌then◌else◌}
 use Rattle.cdcl_search.specs.declared.state.SearchState.{SearchState}
 use Rattle.cdcl_search.specs.Deleting.{deletions}
 use Rattle.cdcl_search.specs.Tells.{as_events, with_events, IsTellable}
-use Rattle.cdcl_search.specs.Ties.{Ties, TiesFrom, SearchStands, SearchStandsFrom, AreUnits, ClauseTies, TrailTies, EngineTies, IsWatched, IsFallingFrom, stretches, AreNumbered, first_row_id, row_ids}
+use Rattle.cdcl_search.specs.Ties.{Ties, TiesFrom, SearchStands, SearchStandsFrom, AreUnits, ClauseTies, AreLearned, TrailTies, EngineTies, IsWatched, IsFallingFrom, stretches, AreNumbered, first_row_id, row_ids}
 use Rattle.cdcl_search.proofs.RowSteps.{all_told_are}
 use Rattle.cdcl_search.proofs.TableLaws.{AnswersBelow, clauses_stay, units_stay}
 
@@ -83,7 +83,7 @@ temporary_stretches s (n ∷ ids) t =
     ∙ ap (λ b. if b then m.reductions + 1 else m.reductions) (ap (λ b. m.reduces || (b && not (is_covered_without m.tables.clauses n (clause_at m.tables.clauses n)))) t.0.1 ∙ or_none m.reduces)
 
 -- ---- the ties
-module _ (formula : Problem) (c : SearchState) (e : State) (first : ℕ) (rows : List (List Literal)) (near : first + length rows ≤ first_row_id c.next) (s : Search) (ok : IsSearch formula e.parities s) (t : TiesFrom formula c e first rows s) where
+module _ (formula : Problem) (c : SearchState) (e : State) (first : ℕ) (rows : List (List Literal)) (near : first + length rows ≤ first_row_id c.next) (s : Search) (ok : IsSearchIn c.tidies formula e.parities s) (t : TiesFrom formula c e first rows s) where
   abbrev ids : List ℕ
   ids = s.moment.new_clauses
 
@@ -109,9 +109,9 @@ module _ (formula : Problem) (c : SearchState) (e : State) (first : ℕ) (rows :
   answers_below_next : AnswersBelow c.next s.moment.tables.clauses after.moment.tables.clauses
   answers_below_next m low = answers m (let room = t.log.ranged.room in omega (arith, low, room))
 
-  few_then : HasFewAdditions formula c.next (first_row_id c.next) 0 after
-  few_then = subst (λ k. HasFewAdditions formula c.next (first_row_id c.next) 0 (record after { conflicts = k })) (sym (deleted_conflicts s ids))
-      (let was = t.log.few_additions in let same = deletions_add_none s ids in omega (arith, was, same, near))
+  few_then : c.tidies ≡ false → HasFewAdditions formula c.next (first_row_id c.next) 0 after
+  few_then plain = subst (λ k. HasFewAdditions formula c.next (first_row_id c.next) 0 (record after { conflicts = k })) (sym (deleted_conflicts s ids))
+      (let was = t.log.few_additions plain in let same = deletions_add_none s ids in omega (arith, was, same, near))
 
   ties_then : Ties formula c e [] after
   ties_then = record {
@@ -132,6 +132,7 @@ module _ (formula : Problem) (c : SearchState) (e : State) (first : ℕ) (rows :
       };
     };
     clauses = subst (λ es. ClauseTies formula after.moment.tables.clauses c.next c.arena (held 0 es)) (sym (deleted_trail s ids)) (clauses_stay formula s.moment.tables.clauses after.moment.tables.clauses c.next c.arena (held 0 s.trail) answers_below_next t.clauses);
+    learned = subst (AreLearned c.arena) (sym (temporary_learned s ids temporary)) t.learned;
     trail = subst (λ es. TrailTies formula es c.trail c.order c.phases.items) (sym (deleted_trail s ids)) t.trail;
     units = subst (λ es. AreUnits after.moment.tables.clauses c.next c.trail es c.units.items) (sym (deleted_trail s ids)) (units_stay s.moment.tables.clauses after.moment.tables.clauses c.next c.trail s.trail c.units.items answers_below_next t.units);
     engine = subst (λ es. EngineTies formula es c.given e) (sym (deleted_trail s ids)) t.engine;
@@ -146,7 +147,7 @@ module _ (formula : Problem) (c : SearchState) (e : State) (first : ℕ) (rows :
     levels = deleted_levels s ids ∙ t.levels ∙ ap level_of (sym (deleted_trail s ids));
   }
 
-  is_search_then : (k : ℕ) → IsSearch formula e.parities (deleted s (take k ids))
+  is_search_then : (k : ℕ) → IsSearchIn c.tidies formula e.parities (deleted s (take k ids))
   is_search_then k = deleted_keeps formula e.parities s ok (take k ids) (first_temporary s ids k temporary)
 
   told_then : (old : Option (List LogEvent)) → AreTold old s.events → (some : List ℕ) → AreTold (with_events (deletions some) old) (deleted s some).events

@@ -53,8 +53,9 @@ fed_by es given e u values level f = record {
 pub other_engine : (formula : Problem) (c : SearchState) (rows : List (List Literal)) (s : Search) (e u : State) → u.vars ≡ e.vars → u.parities ≡ e.parities → u.values ≡ e.values → u.level ≡ e.level → HaveReasons c u
     → Ties formula c e rows s → Ties formula c u rows s
 other_engine formula c rows s e u vars parities values level reasons t = record {
-  log = subst (λ ps. LogTies formula ps c.next (first_row_id c.next) rows s) (sym parities) t.log;
+  log = subst (λ ps. LogTies c.tidies formula ps c.next (first_row_id c.next) rows s) (sym parities) t.log;
   clauses = t.clauses;
+  learned = t.learned;
   trail = t.trail;
   units = t.units;
   engine = record {

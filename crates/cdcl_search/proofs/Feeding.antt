@@ -11,7 +11,7 @@ use Rattle.parity_engine.specs.declared.state.Held.{Held}
 use Rattle.parity_engine.specs.State.{State, assigned, held_at, is_unassigned}
 use Rattle.search_steps.specs.Trail.{Entry, all_held, IsTrail, IsUnassigned}
 use Rattle.search_steps.specs.Quiet.{IsOfParities}
-use Rattle.search_steps.specs.Search.{Search, IsSearch}
+use Rattle.search_steps.specs.Search.{Search, IsSearchIn}
 use Rattle.search_steps.specs.Tied.{IsTied}
 use Rattle.search_steps.specs.Engine.{HoldsValues}
 use Rattle.search_steps.proofs.Bridge.{entry_last, entry_before}
@@ -60,7 +60,7 @@ all_front P (x ∷ xs) y a = let r = all_front P xs y a.1 in ((a.0, r.0), r.1)
 no_value_is_unassigned : (values : List (Option Held)) (v : ℕ) → held_at values v ≡ None → is_unassigned (held_at values v) ≡ true
 no_value_is_unassigned values v e = ap is_unassigned e
 
-module _ (formula : Problem) (c : SearchState) (e : State) (rows : List (List Literal)) (s : Search) (ok : IsSearch formula e.parities s) (t : Ties formula c e rows s) (less : c.given < length c.trail.entries) where
+module _ (formula : Problem) (c : SearchState) (e : State) (rows : List (List Literal)) (s : Search) (ok : IsSearchIn c.tidies formula e.parities s) (t : Ties formula c e rows s) (less : c.given < length c.trail.entries) where
   abbrev l : Literal
   l = (entry_at c.trail.entries c.given).literal
 
@@ -110,6 +110,7 @@ module _ (formula : Problem) (c : SearchState) (e : State) (rows : List (List Li
   given_ties = record {
     log = t.log;
     clauses = t.clauses;
+    learned = t.learned;
     trail = t.trail;
     units = t.units;
     engine = record { vars = t.engine.vars; wide = length-set e.values _ _ ∙ t.engine.wide; theirs = t.engine.theirs; few = t.engine.few; fed = fed_more };

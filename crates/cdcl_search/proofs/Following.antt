@@ -104,7 +104,7 @@ module _ (formula : Problem) (e : State) (told : Option (List LogEvent)) where
     s,
     ok,
     told_is,
-    record { log = t.log; clauses = t.clauses; trail = t.trail; units = t.units; engine = t.engine; reasons = t.reasons; counts = t.counts; ids = t.ids; levels = t.levels },
+    record { log = t.log; clauses = t.clauses; learned = t.learned; trail = t.trail; units = t.units; engine = t.engine; reasons = t.reasons; counts = t.counts; ids = t.ids; levels = t.levels },
     record { fits = fits; all = λ r live. subst (λ b. IsAttached b r) (sym attached) (f.all r live) },
   )
 

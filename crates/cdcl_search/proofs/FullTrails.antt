@@ -13,7 +13,7 @@ use Rattle.cx_semantics.proofs.Members.{all_by}
 use Rattle.cx_trail.specs.Sequence.{TrailState, IsTrail, IsFull, IsTrueIn, entry_at}
 use Rattle.parity_engine.specs.State.{State}
 use Rattle.search_steps.specs.Trail.{all_held}
-use Rattle.search_steps.specs.Search.{Search, IsSearch}
+use Rattle.search_steps.specs.Search.{Search, IsSearchIn}
 use Rattle.conflict_learn.proofs.ChainOfResolutions.{by_cases}
 use Rattle.search_steps.proofs.Bridge.{true_is_held, held_is_true}
 use Rattle.search_steps.proofs.EndLaws.{full_is_met}
@@ -47,7 +47,7 @@ true_under t sound values are l (i, (less, at)) =
     made_true l.negative (value_of values l.variable)
     (one_sign t sound l (record { variable = l.variable - 1 + 1; negative = not (get_or values (l.variable - 1) false) }) (i, (less, at)) (are (l.variable - 1) (omega (arith, low, high, variable))) back)
 
-module _ (formula : Problem) (c : SearchState) (e : State) (s : Search) (ok : IsSearch formula e.parities s) (t : Ties formula c e [] s) (f : IsWatched c.watches c.arena c.trail) where
+module _ (formula : Problem) (c : SearchState) (e : State) (s : Search) (ok : IsSearchIn c.tidies formula e.parities s) (t : Ties formula c e [] s) (f : IsWatched c.watches c.arena c.trail) where
   decides : IsFull c.trail → Decides formula.variables (all_held s.trail)
   decides full v low high =
       let n = t.trail.variables in

@@ -145,6 +145,7 @@ module _ (formula : Problem) (c : SearchState) (e : State) (rows : List (List Li
   forced_ties ranged tied sound has = record {
     log = record { ranged = ranged; sums = t.log.sums; numbered = t.log.numbered; rows_told = t.log.rows_told; few_rows = t.log.few_rows; few_additions = t.log.few_additions; none_at_0 = t.log.none_at_0; served = served_alike s (forced_on s l why) (first_row_id c.next) (length rows) refl t.log.served };
     clauses = clauses_grow formula s.moment.tables.clauses c.next c.arena s.trail (record { literal = l; level = level_of s.trail; why = why }) t.clauses;
+    learned = t.learned;
     trail = record { follows = record { tied = tied; sound = sound }; variables = t.trail.variables; stand = stand_grows c c.trail.level l cause c.order t.trail.stand; phased = t.trail.phased };
     units = units_grow c c.trail.level l cause s.moment.tables.clauses c.next s.trail (record { literal = l; level = level_of s.trail; why = why }) c.units.items t.units t.units.all;
     engine = record { vars = t.engine.vars; wide = t.engine.wide; theirs = t.engine.theirs; few = t.engine.few; fed = fed_grows s.trail (record { literal = l; level = level_of s.trail; why = why }) c.given e t.engine.fed refl };

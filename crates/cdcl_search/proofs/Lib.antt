@@ -3,6 +3,7 @@ pub mod IntegerLaws
 pub mod StepTexts
 pub mod Events
 pub mod TableLaws
+pub mod LearnedIds
 pub mod RowSteps
 pub mod OneSign
 pub mod RowReasons

@@ -32,13 +32,14 @@ same_by_rows start before fed now so_far given rows = (
   rows.2 ∙ ap (λ (k : SearchState). k.conflicts) given ∙ so_far.2,
   rows.3 ∙ ap (λ (k : SearchState). k.next) given ∙ so_far.3,
   longer_then start.trail before.trail now.trail so_far.4 (subst (λ (k : SearchState). IsLonger k.trail now.trail) given rows.4),
+  rows.5 ∙ ap (λ (k : SearchState). k.tidies) given ∙ so_far.5,
 )
 
 pub same_then : (a b k : SearchState) → HasSameCounts a b → HasSameCounts b k → HasSameCounts a k
-same_then a b k h i = (i.0 ∙ h.0, i.1 ∙ h.1, i.2 ∙ h.2, i.3 ∙ h.3, longer_then a.trail b.trail k.trail h.4 i.4)
+same_then a b k h i = (i.0 ∙ h.0, i.1 ∙ h.1, i.2 ∙ h.2, i.3 ∙ h.3, longer_then a.trail b.trail k.trail h.4 i.4, i.5 ∙ h.5)
 
 pub same_by_all : (start before followed fed now : SearchState) → HasSameCounts start before → HasSameCounts before followed → fed ≡ record followed { given = length followed.trail.entries } → HasSameCounts fed now → HasSameCounts start now
 same_by_all start before followed fed now so_far clauses given rows = same_by_rows start followed fed now (same_then start before followed so_far clauses) given rows
 
 pub same_rests : (a : SearchState) → HasSameCounts a a
-same_rests a = (refl, refl, refl, refl, longer_rest a.trail)
+same_rests a = (refl, refl, refl, refl, longer_rest a.trail, refl)

@@ -28,7 +28,7 @@ use Rattle.parity_engine.specs.Equations.{numbered}
 use Rattle.xor_reason.proofs.TrailValues.{trail_values, trail_values_agree}
 use Rattle.search_steps.specs.Trail.{Entry, by_row}
 use Rattle.search_steps.specs.Quiet.{IsOfParities}
-use Rattle.search_steps.specs.Search.{Search, IsSearch, forced_on}
+use Rattle.search_steps.specs.Search.{Search, IsSearchIn, forced_on}
 use Rattle.search_steps.specs.Tied.{IsTied, ForcesOn}
 use Rattle.search_steps.specs.Engine.{HoldsValues}
 use Rattle.conflict_learn.proofs.ChainOfResolutions.{by_cases}
@@ -193,8 +193,8 @@ module _ (formula : Problem) (c : SearchState) (e : State) (rows : List (List Li
             implied.met v (all_by (literal_true v) (known e) (λ m k. on m (stands_behind m (known_stands m k)))) (on l stands_last);
       }
 
-      pub implied_tied : IsSearch formula e.parities s → HasAll c → IsTrail (pushed c.trail c.trail.level l (reason.Row row))
-          → IsSearch formula e.parities (forced_on s l (by_row (clause_of e l))) × Ties formula (put c c.trail.level l (reason.Row row)) (names e row n mood) rows (forced_on s l (by_row (clause_of e l)))
+      pub implied_tied : IsSearchIn c.tidies formula e.parities s → HasAll c → IsTrail (pushed c.trail c.trail.level l (reason.Row row))
+          → IsSearchIn c.tidies formula e.parities (forced_on s l (by_row (clause_of e l))) × Ties formula (put c c.trail.level l (reason.Row row)) (names e row n mood) rows (forced_on s l (by_row (clause_of e l)))
       implied_tied ok all sound =
           let levels = levels_low formula c e rows s t in
           let of_theirs : IsOfParities formula.variables e.parities (clause_of e l) =

@@ -25,7 +25,7 @@ use Rattle.parity_engine.specs.Written.{IsWritten, AreRising}
 use Rattle.parity_engine.proofs.Rising.{rising_low}
 use Rattle.xor_reason.specs.declared.reason.ReasonOf.{ReasonOf}
 use Rattle.xor_reason.proofs.ClauseLaws.{contains_written, has_written}
-use Rattle.search_steps.specs.Search.{Search, IsSearch, told}
+use Rattle.search_steps.specs.Search.{Search, IsSearchIn, told}
 use Rattle.search_steps.specs.LogSteps.{IsAddition, IsRowOf, IsClauseOfRow, IsRowReason, row_events, sum_events, all_told}
 use Rattle.search_steps.specs.Holding.{AreTold}
 use Rattle.search_steps.specs.Ids.{IsRanged, HasFreeSums}
@@ -102,7 +102,7 @@ all_told_are (event ∷ more) s told_ a =
     one None h = tt
     one (Some es) h = ap (λ xs. xs ++ event ∷ []) h
 
-pub is_left : (formula : Problem) (parities : List (List Literal)) (s : Search) (told_ : Option (List LogEvent)) → IsSearch formula parities s → s.moment.awaits ≡ false → AreTold told_ s.events → IsLeft formula told_
+pub is_left : {tidies : Bool} (formula : Problem) (parities : List (List Literal)) (s : Search) (told_ : Option (List LogEvent)) → IsSearchIn tidies formula parities s → s.moment.awaits ≡ false → AreTold told_ s.events → IsLeft formula told_
 is_left formula parities s None ok served a = tt
 is_left formula parities s (Some es) ok served a = subst (λ xs. IsLeft formula (Some xs)) (sym a) (inl (is_log_open formula parities s ok served))
 
@@ -128,7 +128,7 @@ spells : (n : ℕ) (lits : List Literal) → AreWithin n lits → literals (inte
 spells n [] w = refl
 spells n (l ∷ lits) w = (λ i. spelt l.variable l.negative w.0.0 i ∷ spells n lits w.1 i)
 
-module _ (formula : Problem) (c : SearchState) (e : State) (rows : List (List Literal)) (s : Search) (ok : IsSearch formula e.parities s) (t : Ties formula c e rows s) (r : ReasonOf) (x : Explains e.parities c.trail r) where
+module _ (formula : Problem) (c : SearchState) (e : State) (rows : List (List Literal)) (s : Search) (ok : IsSearchIn c.tidies formula e.parities s) (t : Ties formula c e rows s) (r : ReasonOf) (x : Explains e.parities c.trail r) where
   abbrev theirs : List (List Literal)
   theirs = e.parities
 
@@ -236,11 +236,12 @@ module _ (formula : Problem) (c : SearchState) (e : State) (rows : List (List Li
           numbered = numbered;
           rows_told = rows_more;
           few_rows = let long = one_longer in omega (arith, long, room);
-          few_additions = let was = t.log.few_additions in let long = one_longer in omega (arith, was, long, few);
+          few_additions = λ plain. let was = t.log.few_additions plain in let long = one_longer in omega (arith, was, long, few);
           none_at_0 = put_other s.moment.tables.clauses n 0 (literals zs) (λ same. omega (arith, same)) ∙ t.log.none_at_0;
           served = served_still no_new no_old;
         };
         clauses = clauses_stay formula s.moment.tables.clauses put.moment.tables.clauses c.next c.arena (held 0 s.trail) (put_answers_below c.next n s.moment.tables.clauses (literals zs) (omega arith)) t.clauses;
+        learned = t.learned;
         trail = t.trail;
         units = units_stay s.moment.tables.clauses put.moment.tables.clauses c.next c.trail s.trail c.units.items (put_answers_below c.next n s.moment.tables.clauses (literals zs) (omega arith)) t.units;
         engine = t.engine;

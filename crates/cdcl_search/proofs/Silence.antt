@@ -16,7 +16,7 @@ use Rattle.watch_lists.specs.declared.event.Event.TheVariants as event
 use Rattle.parity_engine.specs.State.{State, IsSilent}
 use Rattle.search_steps.specs.Trail.{held, all_held}
 use Rattle.search_steps.specs.Quiet.{Quiet, RestsOn, HasNoClash, ClausesQuiet, ParitiesQuiet}
-use Rattle.search_steps.specs.Search.{Search, IsSearch}
+use Rattle.search_steps.specs.Search.{Search, IsSearchIn}
 use Rattle.conflict_learn.proofs.ChainOfResolutions.{by_cases}
 use Rattle.search_steps.proofs.Sets.{not_both, true_rests, tautology_rests}
 use Rattle.search_steps.proofs.TrailLaws.{held_inside}
@@ -38,7 +38,7 @@ some_literal p (x ∷ lits) h = by_cases (p x)
     (λ is. (x, has_at_head x lits, is))
     (λ is. let r = some_literal p lits (sym (ap (λ b. b || list_any p lits) is) ∙ h) in (r.0, has_behind x lits r.0 r.1, r.2))
 
-module _ (formula : Problem) (c : SearchState) (e : State) (s : Search) (ok : IsSearch formula e.parities s) (t : Ties formula c e [] s) (f : IsWatched c.watches c.arena c.trail) where
+module _ (formula : Problem) (c : SearchState) (e : State) (s : Search) (ok : IsSearchIn c.tidies formula e.parities s) (t : Ties formula c e [] s) (f : IsWatched c.watches c.arena c.trail) where
   clash : HasNoClash (all_held s.trail)
   clash = no_clash formula e.parities s ok
 

@@ -24,7 +24,7 @@ use Rattle.parity_engine.specs.State.{State}
 use Rattle.search_policy.specs.Assuming.{Contradicts}
 use Rattle.search_steps.specs.Hints.{AreHintsFor}
 use Rattle.search_steps.specs.Holding.{AreTold}
-use Rattle.search_steps.specs.Search.{Search, IsSearch}
+use Rattle.search_steps.specs.Search.{Search, IsSearchIn}
 use Rattle.search_steps.specs.Tied.{IsLiveSet, ForcesOn}
 use Rattle.search_steps.proofs.StartLaws.{literals_are}
 use Rattle.cdcl_search.specs.declared.state.SearchState.{SearchState}
@@ -113,7 +113,7 @@ module _ (formula : Problem) (c : SearchState) (e : State) (rows : List (List Li
     abbrev after : Search
     after = after_unit formula c e rows st.0 st.1 st.3 l is_next.next.0 is_next.next.1 hints
 
-    is_search : IsSearch formula e.parities after
+    is_search : IsSearchIn c.tidies formula e.parities after
     is_search = unit_is_search formula c e rows st.0 st.1 st.3 l is_next.next.0 is_next.next.1 level live.0 live.1 forces back hints right apart
 
     told_then : (o : Option (List LogEvent)) → AreTold o st.0.events → AreTold (with_events (Step step ∷ []) o) after.events
@@ -135,7 +135,7 @@ module _ (formula : Problem) (c : SearchState) (e : State) (rows : List (List Li
 -- ---- unit clauses change nothing that propagation found
 -- ---- what stays the same
 pub others_rest : (c : SearchState) → HasOther c c
-others_rest c = record { trail = refl; arena = refl; watches = refl; order = refl; given = refl; conflicts = refl; phases = refl; learned = refl; reductions = refl }
+others_rest c = record { trail = refl; arena = refl; watches = refl; order = refl; given = refl; conflicts = refl; phases = refl; learned = refl; reductions = refl; tidies = refl }
 
 pub others_then : (a b c : SearchState) → HasOther a b → HasOther b c → HasOther a c
 others_then a b c h k = record {
@@ -148,6 +148,7 @@ others_then a b c h k = record {
   phases = k.phases ∙ h.phases;
   learned = k.learned ∙ h.learned;
   reductions = k.reductions ∙ h.reductions;
+  tidies = k.tidies ∙ h.tidies;
 }
 
 has_all_still : (old new : SearchState) → HasOther old new → HasAll old → HasAll new

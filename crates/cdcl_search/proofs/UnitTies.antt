@@ -30,7 +30,7 @@ use Rattle.search_steps.specs.Hints.{AreHintsFor}
 use Rattle.search_steps.specs.Ids.{IsRanged}
 use Rattle.search_steps.specs.Size.{HasFewAdditions, additions}
 use Rattle.search_steps.specs.LogSteps.{IsAddition, RestOnClauses, unit_told}
-use Rattle.search_steps.specs.Search.{Search, IsSearch, told}
+use Rattle.search_steps.specs.Search.{Search, IsSearchIn, told}
 use Rattle.search_steps.specs.Tied.{IsTied, ForcesOn}
 use Rattle.search_steps.specs.Trail.{Entry, rests_on, by_clause, held, all_held, level_of}
 use Rattle.search_steps.proofs.Bridge.{to_held}
@@ -43,7 +43,7 @@ use Rattle.search_steps.proofs.UnitLaws.{held_same, level_same}
 use Rattle.search_steps.proofs.UnitSteps.{unit_rests_keeps}
 use Rattle.tidy_rules.proofs.OneLaws.{not_two}
 use Rattle.cdcl_search.specs.declared.state.SearchState.{SearchState}
-use Rattle.cdcl_search.specs.Ties.{Ties, TiesFrom, IsNamedBy, IsHeld, NeedsNoLearned, ClauseTies, AreRows, AreUnits, RestOnUnits, IsFallingFrom, IsFed, HaveReasons, first_row_id, row_ids}
+use Rattle.cdcl_search.specs.Ties.{Ties, TiesFrom, IsNamedBy, IsHeld, NeedsNoLearned, ClauseTies, AreLearned, AreRows, AreUnits, RestOnUnits, IsFallingFrom, IsFed, HaveReasons, first_row_id, row_ids}
 use Rattle.cdcl_search.proofs.Places.{tied_length, older_level}
 use Rattle.cdcl_search.proofs.TableLaws.{put_same, put_other, no_clause}
 
@@ -171,7 +171,7 @@ with_unit c units next = record c { units = units; next = next }
 held_still : (arena : ArenaState) (n : ℕ) (es now : List Entry) (clause : List Literal) → held 0 now ≡ held 0 es → IsHeld arena (held 0 es) n clause → IsHeld arena (held 0 now) n clause
 held_still arena n es now clause same h = subst (λ ls. IsHeld arena ls n clause) (sym same) h
 
-module _ (formula : Problem) (c : SearchState) (e : State) (rows : List (List Literal)) (s : Search) (ok : IsSearch formula e.parities s) (t : Ties formula c e rows s)
+module _ (formula : Problem) (c : SearchState) (e : State) (rows : List (List Literal)) (s : Search) (ok : IsSearchIn c.tidies formula e.parities s) (t : Ties formula c e rows s)
     (l : Literal) (more : length c.units.items < length c.trail.entries) (here : (entry_at c.trail.entries (length c.units.items)).literal ≡ l) where
   abbrev pub next_in : IsNext s.trail c.units.items (length c.units.items)
   next_in = next_of s.moment.tables.clauses c.next c.trail s.trail c.units.items t.units (let long = tied_length s.trail c.trail.entries t.trail.follows.tied in omega (arith, long, more))
@@ -187,7 +187,7 @@ module _ (formula : Problem) (c : SearchState) (e : State) (rows : List (List Li
   abbrev pub after_unit : List ℤ → Search
   after_unit hints = unit_told s c.next (integer_of l) hints next_in.newer next_in.entry next_in.older
 
-module _ (formula : Problem) (c : SearchState) (e : State) (rows : List (List Literal)) (s : Search) (ok : IsSearch formula e.parities s) (t : Ties formula c e rows s)
+module _ (formula : Problem) (c : SearchState) (e : State) (rows : List (List Literal)) (s : Search) (ok : IsSearchIn c.tidies formula e.parities s) (t : Ties formula c e rows s)
     (l : Literal) (more : length c.units.items < length c.trail.entries) (here : (entry_at c.trail.entries (length c.units.items)).literal ≡ l) (level : c.trail.level ≡ 0)
     (clause : List Literal) (live : IsLive s.moment.tables.clauses clause) (forces : ForcesOn (take (length c.units.items) c.trail.entries) clause l)
     (back : literals (integers_of (l ∷ [])) ≡ l ∷ []) (hints : List ℤ) where
@@ -225,7 +225,7 @@ module _ (formula : Problem) (c : SearchState) (e : State) (rows : List (List Li
   addition : IsAddition formula s.moment.tables.clauses n (z ∷ [])
   addition = record { within = variables_are_within formula.variables (l ∷ []) (l_within formula c e rows s ok t l more here); free = next_is_free formula (first_row_id c.next) c.next (first_row_id c.next + length rows) s t.log.ranged (omega arith) }
 
-  pub unit_is_search : AreHintsFor s.moment.tables.clauses (l ∷ []) hints → assumes formula.constraints (negate l) ≡ false → IsSearch formula e.parities after
+  pub unit_is_search : AreHintsFor s.moment.tables.clauses (l ∷ []) hints → assumes formula.constraints (negate l) ≡ false → IsSearchIn c.tidies formula e.parities after
   unit_is_search right apart_is = unit_rests_keeps formula e.parities s ok n z hints p.newer p.older p.entry p.parts level_is (integer_is ∙ sym literal_is) addition
       (subst (λ m. AreHintsFor s.moment.tables.clauses (m ∷ []) hints) (sym integer_is) right)
       (ap (λ m. is_ending formula.constraints (m ∷ [])) integer_is ∙ ap (λ b. b && true) apart_is) t.log.served.served (on_clauses c.units.items p.older p.rest) clause live
@@ -337,9 +337,9 @@ module _ (formula : Problem) (c : SearchState) (e : State) (rows : List (List Li
     rows_still : AreRows table next rows
     rows_still i less = put_other s.moment.tables.clauses c.next (next + i) (literal (integer_of l) ∷ []) (λ same. omega (arith, same, next_is)) ∙ ap (λ k. get s.moment.tables.clauses (k + i)) next_is ∙ t.log.rows_told i less
 
-    few_then : HasFewAdditions formula next next (length rows) after
-    few_then =
-        let was = t.log.few_additions in
+    few_then : c.tidies ≡ false → HasFewAdditions formula next next (length rows) after
+    few_then plain =
+        let was = t.log.few_additions plain in
         let one : additions after.events ≡ additions s.events + 1 = additions_join s.events (Step (ClauseWithHints c.next (integer_of l ∷ []) hints) ∷ []) in
         omega (arith, was, one, next_is)
 
@@ -357,6 +357,7 @@ module _ (formula : Problem) (c : SearchState) (e : State) (rows : List (List Li
         served = record { served = refl; old_clauses = t.log.served.old_clauses; new_clauses = t.log.served.new_clauses ∙ ap (λ k. row_ids k (length rows)) (sym next_is); old_sums = t.log.served.old_sums; new_sums = t.log.served.new_sums };
       };
       clauses = clauses_then;
+      learned = subst (AreLearned c.arena) (sym learned_still) t.learned;
       trail = record { follows = record { tied = tied_rests p.newer p.older p.entry c.next c.trail.entries tied; sound = t.trail.follows.sound }; variables = t.trail.variables; stand = t.trail.stand; phased = t.trail.phased };
       units = units_then;
       engine = record { vars = t.engine.vars; wide = t.engine.wide; theirs = t.engine.theirs; few = t.engine.few; fed = fed_then };

@@ -50,10 +50,11 @@ pub record HasRowsToDelete {P L T : Type 0} (p : engine.Ghosts P) (m : sink.Ghos
   pub stands : OnOk result (StandsBeforeDeletion p m new now e rows)
   pub log : GoesOn m old (fault_in result) new
 
--- Up to an answer the search fits again. No conflict is counted, and the log goes on.
+-- Up to an answer the search fits again. No conflict is counted, it tidies as before, and the log goes on.
 pub record SearchesOn {P L T : Type 0} (p : engine.Ghosts P) (m : sink.Ghosts L LogEvent) (old : SearchLog L) (c : SearchState) (new : SearchLog L) (now : SearchState) (e : P) (result : Result T CoreFault) : Type 0 where
   pub stands : OnOk result (Stands p m new now e [])
   pub conflicts : now.conflicts ≡ c.conflicts
+  pub tidies : now.tidies ≡ c.tidies
   pub log : GoesOn m old (fault_in result) new
 
 -- ---- calls that tell nothing
@@ -62,10 +63,11 @@ pub record IsUnbroken (formula : Problem) (c : SearchState) (e : State) : Type 0
   pub stands : (told : Option (List LogEvent)) × SearchStands formula c e [] told
   pub unbroken : e.mood ≢ Broken
 
--- the search fits the code and the log that it fitted, and no row is broken
+-- the search fits the code and the log that it fitted, no row is broken, and it tidies as before
 pub record StaysUnbroken (formula : Problem) (c : SearchState) (e : State) (now : SearchState) (e_now : State) : Type 0 where
   pub stands : (told : Option (List LogEvent)) → SearchStands formula c e [] told → SearchStands formula now e_now [] told
   pub unbroken : e_now.mood ≢ Broken
+  pub tidies : now.tidies ≡ c.tidies
 
 -- the search fits the code and some log, both engines are quiet, no literal contradicts an assumed one, and the units of level 0 are told
 pub record MayDecide (formula : Problem) (c : SearchState) (e : State) (a : Assumptions) : Type 0 where

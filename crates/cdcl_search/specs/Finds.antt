@@ -14,9 +14,9 @@ use Rattle.cdcl_search.specs.declared.propagation.Found.TheVariants.{Quiet, Clau
 use Rattle.cdcl_search.specs.declared.propagation.RowFinding.{RowFinding}
 use Rattle.cdcl_search.specs.declared.propagation.RowFinding.TheVariants as finding
 
--- literals were added to the trail; the level, the unit clauses, the count of conflicts and the next id stay
+-- literals were added to the trail; the level, the unit clauses, the count of conflicts, the next id and whether the search tidies stay
 abbrev pub HasSameCounts : SearchState → SearchState → Type 0
-HasSameCounts old new = (new.trail.level ≡ old.trail.level) × (new.units.items ≡ old.units.items) × (new.conflicts ≡ old.conflicts) × (new.next ≡ old.next) × IsLonger old.trail new.trail
+HasSameCounts old new = (new.trail.level ≡ old.trail.level) × (new.units.items ≡ old.units.items) × (new.conflicts ≡ old.conflicts) × (new.next ≡ old.next) × IsLonger old.trail new.trail × (new.tidies ≡ old.tidies)
 
 -- the engine has all literals of the trail
 abbrev pub HasAll : SearchState → Type 0

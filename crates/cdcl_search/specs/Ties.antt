@@ -21,7 +21,7 @@ use Rattle.search_policy.specs.Standing.{AllStand, OrderState}
 use Rattle.parity_engine.specs.State.{State, Named, named_at, MeetsForm}
 use Rattle.search_steps.specs.Trail.{Entry, held, level_of, by_clause}
 use Rattle.search_steps.specs.Quiet.{HasTrue}
-use Rattle.search_steps.specs.Search.{Search, IsSearch}
+use Rattle.search_steps.specs.Search.{Search, IsSearchIn}
 use Rattle.search_steps.specs.Ids.{IsRanged, HasFreeSums}
 use Rattle.search_steps.specs.Size.{HasFewAdditions}
 use Rattle.search_steps.specs.Tied.{Mirrors}
@@ -29,7 +29,7 @@ use Rattle.search_steps.specs.Engine.{HoldsValues}
 pub use Rattle.search_steps.specs.Hints.{IsNamedBy}
 use Rattle.search_steps.specs.Holding.{AreTold}
 use Rattle.cdcl_search.specs.declared.state.SearchState.{SearchState}
-use Rattle.cx_semantics.specs.Marked.{Moment}
+use Rattle.cx_semantics.specs.Marked.{Moment, is_among}
 use Rattle.search_steps.specs.Laws.{HaveTheirs}
 
 -- where the next clause that stays gets this id, the clauses of rows have the ids after it
@@ -58,14 +58,14 @@ pub record HasOnlyRowClauses (s : Search) (first rows : ℕ) : Type 0 where
   pub old_sums : s.moment.old_sums ≡ []
   pub new_sums : s.moment.new_sums ≡ []
 
--- The engine's parities are under their numbers, and the clauses of rows, of which there are few, under theirs; what else is told keeps to its ranges, and nothing temporary is left but these clauses.
-pub record LogTies (formula : Problem) (parities : List (List Literal)) (next first : ℕ) (rows : List (List Literal)) (s : Search) : Type 0 where
+-- The engine's parities are under their numbers, and the clauses of rows, of which there are few, under theirs; what else is told keeps to its ranges, and nothing temporary is left but these clauses. A search that tidies may add more.
+pub record LogTies (tidies : Bool) (formula : Problem) (parities : List (List Literal)) (next first : ℕ) (rows : List (List Literal)) (s : Search) : Type 0 where
   pub ranged : IsRanged formula first next (first + length rows) s.trail s.moment
   pub sums : HasFreeSums (length parities) s.moment
   pub numbered : AreNumbered s.moment.tables.parities parities
   pub rows_told : AreRows s.moment.tables.clauses first rows
   pub few_rows : length rows ≤ formula.variables + 1
-  pub few_additions : HasFewAdditions formula next first (length rows) s
+  pub few_additions : tidies ≡ false → HasFewAdditions formula next first (length rows) s
   pub none_at_0 : get s.moment.tables.clauses 0 ≡ None
   pub served : HasOnlyRowClauses s first (length rows)
 
@@ -91,6 +91,10 @@ pub record ClauseTies (formula : Problem) (table : Table) (next : ℕ) (arena : 
   pub covered : (n : ℕ) (clause : List Literal) → n < next → get table n ≡ Some clause → IsHeld arena fixed n clause
   pub apart : (r q : ℕ) → IsLive arena r → IsLive arena q → id_at arena r ≡ id_at arena q → r ≡ q
   pub original : (clause : List Literal) → IsClauseOf formula clause → NeedsNoLearned arena fixed clause
+
+-- each clause of the arena that was learned has one of these ids
+abbrev pub AreLearned : ArenaState → List ℕ → Type 0
+AreLearned arena ids = (r : ℕ) → IsLive arena r → IsTrue (learned_at arena r) → IsTrue (is_among ids (id_at arena r))
 
 -- ---- the watches
 -- they fit, and each clause of the arena is attached
@@ -202,8 +206,9 @@ pub record HasFewIds (formula : Problem) (next conflicts units : ℕ) : Type 0 w
 -- ---- the whole
 -- what the code holds, apart from the watches, is what the search of the calculus holds; of rows these clauses were told since the last mark, under the ids from this one on
 pub record TiesFrom (formula : Problem) (c : SearchState) (e : State) (first : ℕ) (rows : List (List Literal)) (s : Search) : Type 0 where
-  pub log : LogTies formula e.parities c.next first rows s
+  pub log : LogTies c.tidies formula e.parities c.next first rows s
   pub clauses : ClauseTies formula s.moment.tables.clauses c.next c.arena (held 0 s.trail)
+  pub learned : AreLearned c.arena s.moment.learned
   pub trail : TrailTies formula s.trail c.trail c.order c.phases.items
   pub units : AreUnits s.moment.tables.clauses c.next c.trail s.trail c.units.items
   pub engine : EngineTies formula s.trail c.given e
@@ -218,7 +223,7 @@ Ties formula c e rows s = TiesFrom formula c e (first_row_id c.next) rows s
 
 -- some search of the calculus fits the code, and its events are the sink's where that tells them
 abbrev pub SearchStandsFrom : Problem → SearchState → State → ℕ → List (List Literal) → Option (List LogEvent) → Type 0
-SearchStandsFrom formula c e first rows told = (s : Search) × IsSearch formula e.parities s × AreTold told s.events × TiesFrom formula c e first rows s × IsWatched c.watches c.arena c.trail
+SearchStandsFrom formula c e first rows told = (s : Search) × IsSearchIn c.tidies formula e.parities s × AreTold told s.events × TiesFrom formula c e first rows s × IsWatched c.watches c.arena c.trail
 
 abbrev pub SearchStands : Problem → SearchState → State → List (List Literal) → Option (List LogEvent) → Type 0
 SearchStands formula c e rows told = SearchStandsFrom formula c e (first_row_id c.next) rows told

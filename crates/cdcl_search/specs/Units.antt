@@ -19,6 +19,7 @@ pub record HasOther (old new : SearchState) : Type 0 where
   pub phases : new.phases ≡ old.phases
   pub learned : new.learned ≡ old.learned
   pub reductions : new.reductions ≡ old.reductions
+  pub tidies : new.tidies ≡ old.tidies
 
 -- the literal comes after those that have unit clauses, and this clause of a source implied it, which has this id
 pub record IsNextUnit (c : SearchState) (rows : List (List Literal)) (l : Literal) (clause : List Literal) (n : ℕ) : Type 0 where

@@ -1,6 +1,6 @@
-use Rattle.std.proofs.Common.{subst, ◌+◌, drop, arith, []}
+use Rattle.std.proofs.Common.{refl, subst, ◌+◌, drop, arith, []}
 use Rattle.cx_trail.specs.declared.entry.Reason.TheVariants.{Decision}
-use Rattle.cdcl_core.specs.Results.{Refutes}
+use Rattle.cdcl_core.specs.Results.{RefutesIn}
 use Rattle.cdcl_core.proofs.WaitingLaws.{waiting_units_are_ids, waiting_is_id, next_waits, true_is_put, false_is_refutable, open_is_put}
 use Rattle.cdcl_search.specs.GoingOn.{log_rests, log_stops}
 use Rattle.std.proofs.lemmas.Result.{err_from_is_err_and}
@@ -36,7 +36,7 @@ returns-in_ok-push-in-Open-clause-puts g c = λ engines stands.
     st
 
 pub returns-in_ok-refute-in-False-clause-puts : goal.returns-in_ok-refute-in-False-clause-puts
-returns-in_ok-refute-in-False-clause-puts g c = λ engines stands. subst (λ n. Refutes c.refute.new.log.formula.now (n + 1) (g.L.Sink.items c.refute.new.log.sink.now) []) stands.3.conflicts c.in_ok-refute-in-False.ensures.refutes
+returns-in_ok-refute-in-False-clause-puts g c = λ engines stands. subst (λ n. RefutesIn c.args.state.now.tidies c.refute.new.log.formula.now (n + 1) (g.L.Sink.items c.refute.new.log.sink.now) []) stands.3.conflicts c.in_ok-refute-in-False.ensures.refutes
 
 pub returns-in-True-clause-log : goal.returns-in-True-clause-log
 returns-in-True-clause-log g c = log_rests g.L.Sink g.met.L.Sink.keeps_itself c.args.log.now
@@ -50,12 +50,12 @@ returns-in_ok-refute-in-False-clause-log g c = c.in_ok-refute-in-False.ensures.l
 pub returns-in_err-refute-in-False : goal.returns-in_err-refute-in-False
 returns-in_err-refute-in-False g c =
     let fault = err_from_is_err_and c.from_residual.result c.from_residual.ensures.1 in
-    rw (fault.1, fault.2) (record { puts = tt; log = c.in_err-refute-in-False.ensures.log })
+    rw (fault.1, fault.2) (record { puts = tt; tidies = refl; log = c.in_err-refute-in-False.ensures.log })
 
 pub returns-in_err-push-in-Open : goal.returns-in_err-push-in-Open
 returns-in_err-push-in-Open g c =
     let fault = err_from_is_err_and c.from_residual-in_err-push-in-Open.result c.from_residual-in_err-push-in-Open.ensures.1 in
-    rw (fault.1, fault.2) (record { puts = tt; log = log_stops g.L.Sink g.met.L.Sink.keeps_itself c.args.log.now })
+    rw (fault.1, fault.2) (record { puts = tt; tidies = refl; log = log_stops g.L.Sink g.met.L.Sink.keeps_itself c.args.log.now })
 
 pub truth-requires : goal.truth-requires
 truth-requires g c =

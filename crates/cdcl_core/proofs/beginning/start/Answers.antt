@@ -4,7 +4,7 @@ use Rattle.cx_base.specs.Problem.{Problem, AreWithin}
 use Rattle.parity_engine.specs.State.{fresh}
 use Rattle.cdcl_core.specs.Filling.{IsFilled}
 use Rattle.cdcl_core.specs.Given.{AreEngines}
-use Rattle.cdcl_core.specs.Results.{Refutes}
+use Rattle.cdcl_core.specs.Results.{RefutesIn}
 use Rattle.cdcl_core.specs.Waiting.{SearchStandsBut, PutsUnits}
 use Rattle.cdcl_core.proofs.WaitingLaws.{no_ids, empty_is_id, filled_stands, empty_is_refutable, begun_stands, begun_is_calm}
 use Rattle.cdcl_core.proofs.beginning.start.Goals as goal
@@ -62,4 +62,4 @@ returns-then-not-branch-clause-begins g c =
     subst (PutsUnits c.put_units.new.log.formula.now engines c.put_units.new.state [] (g.L.Sink.items c.put_units.new.log.sink.now)) c.if-not-branch.true (c.in_ok-put_units.ensures.puts engines before)
 
 pub returns-in-Some-clause-begins : goal.returns-in-Some-clause-begins
-returns-in-Some-clause-begins g c = subst (λ n. Refutes c.refute.new.log.formula.now (n + 1) (g.L.Sink.items c.refute.new.log.sink.now) []) c.requires.filled.conflicts c.in_ok-refute.ensures.refutes
+returns-in-Some-clause-begins g c = subst (λ n. RefutesIn c.args.filled.now.state.tidies c.refute.new.log.formula.now (n + 1) (g.L.Sink.items c.refute.new.log.sink.now) []) c.requires.filled.conflicts c.in_ok-refute.ensures.refutes

@@ -19,4 +19,5 @@ returns c =
       conflicts = refl;
       none_learned = refl;
       not_reduced = refl;
+      never_tidies = refl;
     }

@@ -11,11 +11,11 @@ use Rattle.search_policy.proofs.AssumingLaws.{extended_keeps}
 use Rattle.conflict_learn.specs.Learning.{literals_of}
 use Rattle.conflict_learn.specs.Touching.{AreTouched}
 use Rattle.search_steps.specs.LogSteps.{after_round}
-use Rattle.search_steps.specs.Search.{IsSearch}
+use Rattle.search_steps.specs.Search.{IsSearchIn}
 use Rattle.cdcl_search.proofs.Outcomes.{on_ok}
 use Rattle.cdcl_core.specs.Entering.{Enters}
 use Rattle.cdcl_core.proofs.Entering.{round_is_search}
-use Rattle.cdcl_core.proofs.JumpLaws.{falling_short, lower_than_now, scores_within, alone_at_zero, first_is_high, first_is_open, can_be_watched, enters_stands}
+use Rattle.cdcl_core.proofs.JumpLaws.{falling_short, lower_than_now, scores_within, alone_at_zero, first_is_high, first_is_open, can_be_watched, enters_stands, enters_tidies}
 use Rattle.cdcl_core.proofs.jumping.jump.Goals as goal
 
 pub go_back-requires-clause-lower : goal.go_back-requires-clause-lower
@@ -66,11 +66,15 @@ returns-clause-stands g c = on_ok _ c.enter.result c.enter.ensures (λ enters to
     c.bump.new.order c.bump.ensures.standing c.bump.ensures.scores c.enter.new.state learned.lbd l.hints c.go_back.ensures.back.counts c.go_back.ensures.back.units
     (subst (λ xs. Enters (record c.go_back.new.state { order = c.bump.new.order; next = c.go_back.new.state.next + 1; conflicts = c.go_back.new.state.conflicts + 1; learned = c.go_back.new.state.learned + 1 }) c.enter.new.state xs c.go_back.new.state.next learned.lbd) c.as_slice.ensures enters) in (
       after_round l.search c.args.state.now.next (integers_of learned.lits) l.hints learned.back_level l.taught.first,
-      subst (λ ps. IsSearch f ps (after_round l.search c.args.state.now.next (integers_of learned.lits) l.hints learned.back_level l.taught.first)) (sym c.go_back.ensures.back.parities) (round_is_search f c.args.state.now e learned.lits learned.back_level l.search l.taught l.hints l.right),
+      subst (λ b. IsSearchIn b f (g.P.ParityEngine.state c.go_back.new.engine).parities (after_round l.search c.args.state.now.next (integers_of learned.lits) l.hints learned.back_level l.taught.first)) (sym (enters_tidies _ c.enter.new.state _ _ _ enters ∙ c.go_back.ensures.back.counts.tidies))
+          (subst (λ ps. IsSearchIn c.args.state.now.tidies f ps (after_round l.search c.args.state.now.next (integers_of learned.lits) l.hints learned.back_level l.taught.first)) (sym c.go_back.ensures.back.parities) (round_is_search f c.args.state.now e learned.lits learned.back_level l.search l.taught l.hints l.right)),
       l.told_is,
       now.0,
       now.1,
     ))
+
+pub returns-clause-tidies : goal.returns-clause-tidies
+returns-clause-tidies g c = on_ok _ c.enter.result c.enter.ensures (λ enters. enters_tidies _ c.enter.new.state _ _ _ enters ∙ c.go_back.ensures.back.counts.tidies)
 
 pub returns-clause-level : goal.returns-clause-level
 returns-clause-level g c = on_ok _ c.enter.result c.enter.ensures (λ enters. elim enters [

@@ -8,6 +8,7 @@ pub loop-reference-init : goal.loop-reference-init
 loop-reference-init g c = record {
   reducing = record { loses = reduction_begins c.args.log.now.formula.now c.args.state.now (g.P.ParityEngine.state c.args.engine.now) (g.L.Sink.items c.args.log.now.sink.now) c.requires.stands c.requires.many c.requires.restart; units = c.requires.units; going = c.requires.going };
   conflicts = refl;
+  tidies = refl;
   log = log_rests g.L.Sink g.met.L.Sink.keeps_itself c.args.log.now;
   trail = refl;
 }
@@ -18,6 +19,7 @@ loop-reference-preserved g c =
     record {
       reducing = done.reducing;
       conflicts = done.conflicts ∙ c.loop-reference.invariant.conflicts;
+      tidies = done.tidies ∙ c.loop-reference.invariant.tidies;
       log = log_then g.L.Sink g.met.L.Sink.keeps_on _ _ _ _ c.loop-reference.invariant.log done.log;
       trail = c.in_ok-remove_where_may.ensures.trail ∙ c.loop-reference.invariant.trail;
     }
@@ -27,6 +29,7 @@ returns g c = record {
   searches_on = record {
     stands = reduction_ends c.loop-reference.log.formula.now c.loop-reference.state (g.P.ParityEngine.state c.args.engine.now) (g.L.Sink.items c.loop-reference.log.sink.now) c.detach_all_removed.new.self c.loop-reference.invariant.reducing.loses c.detach_all_removed.ensures;
     conflicts = c.loop-reference.invariant.conflicts;
+    tidies = c.loop-reference.invariant.tidies;
     log = c.loop-reference.invariant.log;
   };
   trail = c.loop-reference.invariant.trail;
@@ -40,6 +43,7 @@ returns-in_err-remove_where_may g c =
       searches_on = record {
         stands = tt;
         conflicts = done.conflicts ∙ c.loop-reference.invariant.conflicts;
+        tidies = done.tidies ∙ c.loop-reference.invariant.tidies;
         log = log_then g.L.Sink g.met.L.Sink.keeps_on _ c.loop-reference.log _ _ c.loop-reference.invariant.log done.log;
       };
       trail = c.in_err-remove_where_may.ensures.trail ∙ c.loop-reference.invariant.trail;

@@ -8,6 +8,7 @@ abbrev pub invariant-loop-reference : goal.invariant-loop-reference
 invariant-loop-reference g l = record {
   reducing : IsReducing g.P.ParityEngine g.L.Sink l.log l.state l.engine;
   conflicts : l.state.conflicts ≡ l.fn.state.conflicts;
+  tidies : l.state.tidies ≡ l.fn.state.tidies;
   log : GoesOn g.L.Sink l.fn.log None l.log;
   trail : l.state.trail ≡ l.fn.state.trail;
 }

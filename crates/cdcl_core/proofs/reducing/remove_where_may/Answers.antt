@@ -32,15 +32,16 @@ returns g c =
           going = c.in_ok-tell_step.ensures.log.failed ∙ c.requires.going;
         };
         conflicts = refl;
+        tidies = refl;
         log = c.in_ok-tell_step.ensures.log;
       };
       trail = refl;
     }
 
 pub returns-then-not-may_go : goal.returns-then-not-may_go
-returns-then-not-may_go g c = record { reduces_on = record { reducing = c.requires; conflicts = refl; log = log_rests g.L.Sink g.met.L.Sink.keeps_itself c.args.log.now }; trail = refl }
+returns-then-not-may_go g c = record { reduces_on = record { reducing = c.requires; conflicts = refl; tidies = refl; log = log_rests g.L.Sink g.met.L.Sink.keeps_itself c.args.log.now }; trail = refl }
 
 pub returns-in_err-tell_step : goal.returns-in_err-tell_step
 returns-in_err-tell_step g c =
     let fault = err_from_is_err_and c.from_residual.result c.from_residual.ensures.1 in
-    rw (fault.1, fault.2) (record { reduces_on = record { reducing = tt; conflicts = refl; log = c.in_err-tell_step.ensures.log }; trail = refl })
+    rw (fault.1, fault.2) (record { reduces_on = record { reducing = tt; conflicts = refl; tidies = refl; log = c.in_err-tell_step.ensures.log }; trail = refl })

@@ -1,4 +1,4 @@
-use Rattle.std.proofs.Common.{sym, ap, subst, ◌∙◌, ◌+◌, ◌++◌, append-nil, arith}
+use Rattle.std.proofs.Common.{sym, ap, subst, ◌∙◌, ◌++◌, append-nil, arith}
 use Rattle.std.proofs.lemmas.List.{take_all}
 use Rattle.cdcl_search.specs.Tells.{as_events, AreStepsOf}
 use Rattle.cdcl_core.specs.Shortening.{late_unit_events, late_units_from}

@@ -4,7 +4,7 @@ use Rattle.conflict_learn.specs.declared.learning.Resolved.{Resolved}
 use Rattle.search_steps.specs.Hints.{hints_from}
 use Rattle.cdcl_search.specs.GoingOn.{log_then}
 use Rattle.cdcl_search.specs.Tells.{IsId}
-use Rattle.cdcl_core.specs.Results.{Refutes}
+use Rattle.cdcl_core.specs.Results.{RefutesIn}
 use Rattle.cdcl_core.specs.Refuting.{IsHeldBeside}
 use Rattle.cdcl_core.proofs.BesideLaws.{conflict_is_held, follows_sourced, still_sourced, told_refutes}
 use Rattle.cdcl_core.proofs.HintIds.{resolved_ids}
@@ -42,7 +42,7 @@ pub returns-clause-ends : goal.returns-clause-ends
 returns-clause-ends g c =
     let none : c.from_vec.result ≡ [] = c.from_vec.ensures ∙ c.new.ensures.items in
     record {
-      refutes = subst (Refutes c.tell_empty.new.log.formula.now _ _) (sym none) c.in_ok-tell_empty.ensures.refutes;
+      refutes = subst (RefutesIn c.args.state.now.tidies c.tell_empty.new.log.formula.now _ _) (sym none) c.in_ok-tell_empty.ensures.refutes;
       log = log_then g.L.Sink g.met.L.Sink.keeps_on _ c.trace_all.new.log _ _ c.in_ok-traced.ensures.log c.in_ok-tell_empty.ensures.log;
     }
 

@@ -12,6 +12,7 @@ returns g c =
       searches_on = record {
         stands = c.in_ok-compact.ensures.stands c.reduce.new.log.formula.now (g.P.ParityEngine.state c.args.engine.now) [] (g.L.Sink.items c.reduce.new.log.sink.now) c.in_ok-reduce.ensures.searches_on.stands;
         conflicts = ap (λ (k : SearchState). k.conflicts) same ∙ c.reduce.ensures.searches_on.conflicts;
+        tidies = ap (λ (k : SearchState). k.tidies) same ∙ c.reduce.ensures.searches_on.tidies;
         log = c.in_ok-reduce.ensures.searches_on.log;
       };
       level = ap (λ (k : SearchState). k.trail.level) same ∙ ap (λ (t : TrailState). t.level) c.reduce.ensures.trail;
@@ -21,13 +22,13 @@ returns g c =
 pub returns-in_err-chosen : goal.returns-in_err-chosen
 returns-in_err-chosen g c =
     let fault = err_from_is_err_and c.from_residual.result c.from_residual.ensures.1 in
-    rw (fault.1, fault.2) (record { searches_on = record { stands = tt; conflicts = refl; log = log_stops g.L.Sink g.met.L.Sink.keeps_itself c.args.log.now }; level = refl; variables = refl })
+    rw (fault.1, fault.2) (record { searches_on = record { stands = tt; conflicts = refl; tidies = refl; log = log_stops g.L.Sink g.met.L.Sink.keeps_itself c.args.log.now }; level = refl; variables = refl })
 
 pub returns-in_err-reduce : goal.returns-in_err-reduce
 returns-in_err-reduce g c =
     let fault = err_from_is_err_and c.from_residual-in_err-reduce.result c.from_residual-in_err-reduce.ensures.1 in
     rw (fault.1, fault.2) (record {
-      searches_on = record { stands = tt; conflicts = c.reduce.ensures.searches_on.conflicts; log = c.in_err-reduce.ensures.searches_on.log };
+      searches_on = record { stands = tt; conflicts = c.reduce.ensures.searches_on.conflicts; tidies = c.reduce.ensures.searches_on.tidies; log = c.in_err-reduce.ensures.searches_on.log };
       level = ap (λ (t : TrailState). t.level) c.reduce.ensures.trail;
       variables = ap (λ (t : TrailState). t.variables) c.reduce.ensures.trail;
     })
@@ -40,6 +41,7 @@ returns-in_err-compact g c =
       searches_on = record {
         stands = tt;
         conflicts = ap (λ (k : SearchState). k.conflicts) same ∙ c.reduce.ensures.searches_on.conflicts;
+        tidies = ap (λ (k : SearchState). k.tidies) same ∙ c.reduce.ensures.searches_on.tidies;
         log = log_then g.L.Sink g.met.L.Sink.keeps_on _ c.reduce.new.log _ _ c.in_ok-reduce.ensures.searches_on.log (log_stops g.L.Sink g.met.L.Sink.keeps_itself c.reduce.new.log);
       };
       level = ap (λ (k : SearchState). k.trail.level) same ∙ ap (λ (t : TrailState). t.level) c.reduce.ensures.trail;

@@ -13,6 +13,7 @@ returns-in_ok-values-in-Found-Quiet-clause-leaves g c = record {
     log = (c.args.state.now.conflicts, c.requires.searches.few.0, log_is_open c.args.log.now.formula.now c.args.state.now (g.P.ParityEngine.state c.args.engine.now) [] (g.L.Sink.items c.args.log.now.sink.now) c.requires.searches.stands);
   };
   one_more = tt;
+  tidies = tt;
   keeps = tt;
   clear = c.requires.searches.clear;
   log = log_rests g.L.Sink g.met.L.Sink.keeps_itself c.args.log.now;
@@ -34,6 +35,7 @@ returns-in_ok-failed-in-Failed-clause-leaves g c =
     record {
       goes_on = refutes_within c.conclude_failed.new.log.formula.now (c.args.state.now.conflicts + 1) c.args.budget (g.L.Sink.items c.conclude_failed.new.log.sink.now) c.in_ok-failed-in-Failed.failed (omega (arith, few)) ends.refutes;
       one_more = tt;
+      tidies = tt;
       keeps = tt;
       clear = c.in_ok-failed-in-Failed.ensures.clear;
       log = ends.log;

@@ -36,6 +36,7 @@ returns-then-level-assumptions-clause-leaves g c =
     record {
       goes_on = refutes_within c.end.new.log.formula.now (c.args.state.now.conflicts + 1) c.args.budget (g.L.Sink.items c.end.new.log.sink.now) c.in_ok-failed.failed (omega (arith, few)) ends.refutes;
       one_more = tt;
+      tidies = tt;
       keeps = tt;
       clear = c.in_ok-failed.ensures.clear;
       log = log_then g.L.Sink g.met.L.Sink.keeps_on _ c.conflict_clause.new.log _ _ c.in_ok-conclusion.ensures.concludes_on.log ends.log;
@@ -44,7 +45,7 @@ returns-then-level-assumptions-clause-leaves g c =
 pub returns-in_err-failed-clause-leaves : goal.returns-in_err-failed-clause-leaves
 returns-in_err-failed-clause-leaves g c =
     let fault = err_from_is_err_and c.from_residual-in_err-failed.result c.from_residual-in_err-failed.ensures.1 in
-    rw (fault.1, fault.2) (record { goes_on = tt; one_more = tt; keeps = tt; clear = tt; log = log_then g.L.Sink g.met.L.Sink.keeps_on _ c.conflict_clause.new.log _ _ c.in_ok-conclusion.ensures.concludes_on.log c.in_err-failed.ensures.ends.log })
+    rw (fault.1, fault.2) (record { goes_on = tt; one_more = tt; tidies = tt; keeps = tt; clear = tt; log = log_then g.L.Sink g.met.L.Sink.keeps_on _ c.conflict_clause.new.log _ _ c.in_ok-conclusion.ensures.concludes_on.log c.in_err-failed.ensures.ends.log })
 
 pub returns-in_ok-failed-in-Ending-clause-leaves : goal.returns-in_ok-failed-in-Ending-clause-leaves
 returns-in_ok-failed-in-Ending-clause-leaves g c =
@@ -53,6 +54,7 @@ returns-in_ok-failed-in-Ending-clause-leaves g c =
     record {
       goes_on = refutes_within c.tell_ending.new.log.formula.now (c.args.state.now.conflicts + 1) c.args.budget (g.L.Sink.items c.tell_ending.new.log.sink.now) c.in_ok-failed-in-Ending.failed (omega (arith, few)) ends.refutes;
       one_more = tt;
+      tidies = tt;
       keeps = tt;
       clear = c.requires.searches.clear;
       log = log_then g.L.Sink g.met.L.Sink.keeps_on _ c.conflict_clause.new.log _ _ c.in_ok-conclusion.ensures.concludes_on.log ends.log;
@@ -61,12 +63,13 @@ returns-in_ok-failed-in-Ending-clause-leaves g c =
 pub returns-in_err-failed-in-Ending-clause-leaves : goal.returns-in_err-failed-in-Ending-clause-leaves
 returns-in_err-failed-in-Ending-clause-leaves g c =
     let fault = err_from_is_err_and c.from_residual-in_err-failed-in-Ending.result c.from_residual-in_err-failed-in-Ending.ensures.1 in
-    rw (fault.1, fault.2) (record { goes_on = tt; one_more = tt; keeps = tt; clear = tt; log = log_then g.L.Sink g.met.L.Sink.keeps_on _ c.conflict_clause.new.log _ _ c.in_ok-conclusion.ensures.concludes_on.log c.in_err-failed-in-Ending.ensures.ends.log })
+    rw (fault.1, fault.2) (record { goes_on = tt; one_more = tt; tidies = tt; keeps = tt; clear = tt; log = log_then g.L.Sink g.met.L.Sink.keeps_on _ c.conflict_clause.new.log _ _ c.in_ok-conclusion.ensures.concludes_on.log c.in_err-failed-in-Ending.ensures.ends.log })
 
 pub returns-in-Clause-clause-leaves : goal.returns-in-Clause-clause-leaves
 returns-in-Clause-clause-leaves g c = record {
   goes_on = c.learn_and_jump.ensures.goes_on;
   one_more = c.learn_and_jump.ensures.one_more;
+  tidies = c.learn_and_jump.ensures.tidies;
   keeps = c.learn_and_jump.ensures.keeps;
   clear = c.learn_and_jump.ensures.clear;
   log = log_then g.L.Sink g.met.L.Sink.keeps_on _ c.conflict_clause.new.log _ _ c.in_ok-conclusion.ensures.concludes_on.log c.learn_and_jump.ensures.log;

@@ -1,5 +1,5 @@
-use Rattle.std.proofs.Common.{sym, subst, ◌∙◌}
-use Rattle.cdcl_core.specs.Results.{Refutes}
+use Rattle.std.proofs.Common.{sym, subst, ◌∙◌, [], IfOk}
+use Rattle.cdcl_core.specs.Results.{IsRightOutcomeIn, IsSettledBy, Refutes, RefutesIn}
 use Rattle.cdcl_search.specs.GoingOn.{log_stops, log_then}
 use Rattle.std.proofs.lemmas.Result.{err_from_is_err_and}
 use Rattle.cdcl_core.proofs.Answering.{refutes_within, unsat_is_known}
@@ -11,11 +11,19 @@ search-requires-clause-going g c = c.in_ok-engine.ensures.log.failed ∙ c.requi
 pub returns-in-Some-clause-log : goal.returns-in-Some-clause-log
 returns-in-Some-clause-log g c = log_then g.L.Sink g.met.L.Sink.keeps_on _ c.start.new.log _ _ c.in_ok-engine.ensures.log c.search.ensures.log
 
+-- the clauses of the formula were filled into a search that never tidies
+pub returns-in-Some-clause-answers : goal.returns-in-Some-clause-answers
+returns-in-Some-clause-answers g c = subst (λ b. IfOk c.search.result (λ a. IsRightOutcomeIn b c.search.new.log.formula.now c.args.budget (g.L.Sink.items c.search.new.log.sink.now) a)) (c.start.ensures.tidies ∙ c.in_ok-fill.ensures.never_tidies) c.search.ensures.answers
+
+pub returns-in-Some-clause-settled : goal.returns-in-Some-clause-settled
+returns-in-Some-clause-settled g c = λ s. subst (λ b. IfOk c.search.result (λ a. IsSettledBy b c.search.new.log.formula.now 1 (g.L.Sink.items c.search.new.log.sink.now) a)) (c.start.ensures.tidies ∙ c.in_ok-fill.ensures.never_tidies) (c.search.ensures.settled s)
+
 pub returns-in-None : goal.returns-in-None
 returns-in-None g c =
     let none = c.from_vec.ensures ∙ c.new.ensures.items in
     let told = g.L.Sink.items c.start.new.log.sink.now in
-    let refutes = subst (Refutes c.start.new.log.formula.now 1 told) (sym none) (rw c.in-None.is at c.in_ok-engine.ensures.begins) in
+    let ends : RefutesIn c.start.new.filled.state.tidies c.start.new.log.formula.now 1 told [] = rw c.in-None.is at c.in_ok-engine.ensures.begins in
+    let refutes : Refutes c.start.new.log.formula.now 1 told c.from_vec.result = subst (Refutes c.start.new.log.formula.now 1 told) (sym none) (subst (λ b. RefutesIn b c.start.new.log.formula.now 1 told []) (c.start.ensures.tidies ∙ c.in_ok-fill.ensures.never_tidies) ends) in
     record {
       answers = refutes_within c.start.new.log.formula.now 1 c.args.budget told c.from_vec.result c.requires.budget.0 refutes;
       settled = λ s. (refutes, unsat_is_known c.from_vec.result);

@@ -3,6 +3,8 @@ use Rattle.std.proofs.lemmas.Result.{err_from_is_err_and}
 use Rattle.std.specs.Prelude.{MatchOption}
 use Rattle.search_steps.specs.Recovering.{SettledWithRecovered}
 use Rattle.cdcl_search.specs.GoingOn.{log_then}
+use Rattle.cdcl_core.specs.Concluding.{SearchGoesOn}
+use Rattle.cdcl_core.specs.Results.{IsRightOutcomeIn}
 use Rattle.cdcl_core.specs.Rounds.{IsSettledIn}
 use Rattle.cdcl_core.proofs.solving.round.Goals as goal
 
@@ -15,9 +17,12 @@ conclude-requires-clause-settled g c = λ s. c.in_ok-reached.ensures.settled s �
 pub returns-clause-leaves : goal.returns-clause-leaves
 returns-clause-leaves g c =
     let leaves = c.conclude.ensures.leaves in
+    let formula = c.conclude.new.log.formula.now in
+    let told = g.L.Sink.items c.conclude.new.log.sink.now in
     record {
-      goes_on = leaves.goes_on;
+      goes_on = subst (λ b. IfOk c.conclude.result (λ o. MatchOption o (SearchGoesOn formula c.args.budget told c.conclude.new.state (g.P.ParityEngine.state c.conclude.new.engine)) (λ a. IsRightOutcomeIn b formula c.args.budget told a))) c.search_on.ensures.searches_on.tidies leaves.goes_on;
       one_more = subst (λ n. IfOk c.conclude.result (λ o. MatchOption o (c.conclude.new.state.conflicts ≡ n + 1) (λ _. Unit {0}))) c.search_on.ensures.searches_on.conflicts leaves.one_more;
+      tidies = subst (λ b. IfOk c.conclude.result (λ o. MatchOption o (c.conclude.new.state.tidies ≡ b) (λ _. Unit {0}))) c.search_on.ensures.searches_on.tidies leaves.tidies;
       keeps = leaves.keeps;
       clear = leaves.clear;
       log = log_then g.L.Sink g.met.L.Sink.keeps_on _ c.search_on.new.log _ _ c.in_ok-reached.ensures.searches_on.log leaves.log;
@@ -26,8 +31,9 @@ returns-clause-leaves g c =
 pub returns-clause-settled : goal.returns-clause-settled
 returns-clause-settled g c = λ s level.
     let told = g.L.Sink.items c.conclude.new.log.sink.now in
-    subst (λ n. IsSettledIn c.conclude.new.log.formula.now n told c.conclude.result) c.search_on.ensures.searches_on.conflicts
-    (c.conclude.ensures.at_start (c.in_ok-reached.ensures.settled (subst SettledWithRecovered c.conclude.ensures.leaves.log.formula s) ∙ level))
+    subst (λ b. IsSettledIn b c.conclude.new.log.formula.now c.args.state.now.conflicts told c.conclude.result) c.search_on.ensures.searches_on.tidies
+    (subst (λ n. IsSettledIn c.search_on.new.state.tidies c.conclude.new.log.formula.now n told c.conclude.result) c.search_on.ensures.searches_on.conflicts
+    (c.conclude.ensures.at_start (c.in_ok-reached.ensures.settled (subst SettledWithRecovered c.conclude.ensures.leaves.log.formula s) ∙ level)))
 
 pub conclude-requires-clause-searches : goal.conclude-requires-clause-searches
 conclude-requires-clause-searches g c = record {
@@ -44,4 +50,4 @@ conclude-requires-clause-reaches g c = c.in_ok-reached.ensures.reaches
 pub returns-in_err-reached : goal.returns-in_err-reached
 returns-in_err-reached g c =
     let fault = err_from_is_err_and c.from_residual.result c.from_residual.ensures.1 in
-    rw (fault.1, fault.2) (record { leaves = record { goes_on = tt; one_more = tt; keeps = tt; clear = tt; log = c.in_err-reached.ensures.searches_on.log }; settled = λ s level. tt })
+    rw (fault.1, fault.2) (record { leaves = record { goes_on = tt; one_more = tt; tidies = tt; keeps = tt; clear = tt; log = c.in_err-reached.ensures.searches_on.log }; settled = λ s level. tt })

@@ -1,7 +1,7 @@
-use Rattle.std.proofs.Common.{◌+◌, ◌<◌, ◌∙◌, sym, ap, subst, arith}
+use Rattle.std.proofs.Common.{◌+◌, ◌<◌, ◌∙◌, refl, sym, ap, subst, arith}
 use Rattle.search_steps.specs.Recovering.{SettledWithRecovered}
 use Rattle.cdcl_search.specs.GoingOn.{log_rests, log_then}
-use Rattle.cdcl_core.specs.Results.{IsSettledBy}
+use Rattle.cdcl_core.specs.Results.{IsRightOutcomeIn, IsSettledBy}
 use Rattle.std.proofs.lemmas.Result.{err_from_is_err_and}
 use Rattle.cdcl_core.specs.declared.schedule.Schedule.{Schedule}
 use Rattle.cdcl_core.proofs.OnSchedule.{begins_on_schedule}
@@ -26,6 +26,7 @@ loop-assumptions-preserved g c =
       clear = leaves.clear;
       keeps = then.keeps;
       on = then.on;
+      tidies = then.searches_on.tidies ∙ rw c.in_default.is at leaves.tidies ∙ i.tidies;
       log = log_then g.L.Sink g.met.L.Sink.keeps_on _ c.round.new.log _ _ (log_then g.L.Sink g.met.L.Sink.keeps_on _ c.loop-assumptions.log _ _ i.log leaves.log) then.searches_on.log;
     }
 
@@ -33,8 +34,8 @@ pub returns-in-Some-clause-settled : goal.returns-in-Some-clause-settled
 returns-in-Some-clause-settled g c s =
     let i = c.loop-assumptions.invariant.settled (subst SettledWithRecovered c.in_ok-outcome.ensures.leaves.log.formula s) in
     let told = g.L.Sink.items c.round.new.log.sink.now in
-    let h : IsSettledBy c.round.new.log.formula.now (c.loop-assumptions.state.conflicts + 1) told c.in-Some.outcome = rw c.in-Some.is at (c.in_ok-outcome.ensures.settled s i.0) in
-    subst (λ n. IsSettledBy c.round.new.log.formula.now (n + 1) told c.in-Some.outcome) i.1 h
+    let h : IsSettledBy c.loop-assumptions.state.tidies c.round.new.log.formula.now (c.loop-assumptions.state.conflicts + 1) told c.in-Some.outcome = rw c.in-Some.is at (c.in_ok-outcome.ensures.settled s i.0) in
+    subst (λ b. IsSettledBy b c.round.new.log.formula.now 1 told c.in-Some.outcome) c.loop-assumptions.invariant.tidies (subst (λ n. IsSettledBy c.loop-assumptions.state.tidies c.round.new.log.formula.now (n + 1) told c.in-Some.outcome) i.1 h)
 
 pub returns-in_err-follow_schedule : goal.returns-in_err-follow_schedule
 returns-in_err-follow_schedule g c =
@@ -51,7 +52,9 @@ pub returns-in-Some-clause-log : goal.returns-in-Some-clause-log
 returns-in-Some-clause-log g c = log_then g.L.Sink g.met.L.Sink.keeps_on _ c.loop-assumptions.log _ _ c.loop-assumptions.invariant.log c.in_ok-outcome.ensures.leaves.log
 
 pub returns-in-Some-clause-answers : goal.returns-in-Some-clause-answers
-returns-in-Some-clause-answers g c = rw c.in-Some.is at c.in_ok-outcome.ensures.leaves.goes_on
+returns-in-Some-clause-answers g c =
+    let right : IsRightOutcomeIn c.loop-assumptions.state.tidies c.round.new.log.formula.now c.args.budget (g.L.Sink.items c.round.new.log.sink.now) c.in-Some.outcome = rw c.in-Some.is at c.in_ok-outcome.ensures.leaves.goes_on in
+    subst (λ b. IsRightOutcomeIn b c.round.new.log.formula.now c.args.budget (g.L.Sink.items c.round.new.log.sink.now) c.in-Some.outcome) c.loop-assumptions.invariant.tidies right
 
 pub round-requires-clause-searches : goal.round-requires-clause-searches
 round-requires-clause-searches g c =
@@ -75,6 +78,7 @@ loop-assumptions-init g c = record {
   };
   settled = λ s. (c.requires.begins.level, c.requires.begins.none);
   clear = c.new-marks.ensures;
+  tidies = refl;
   on = begins_on_schedule c.new-schedule.result c.args.state.now.conflicts (ap (λ (s : Schedule). s.since) c.new-schedule.ensures) (ap (λ (s : Schedule). s.restarts) c.new-schedule.ensures) c.requires.begins.none;
   keeps = c.in_ok-assumptions.ensures c.args.state.now.trail c.requires.begins.stands.3.trail.variables c.requires.begins.level;
   log = log_rests g.L.Sink g.met.L.Sink.keeps_itself c.args.log.now;

@@ -14,6 +14,7 @@ invariant-loop-assumptions g l = record {
   clear : AreClear l.marks;
   keeps : KeepsAssumptions l.log.formula.now.constraints l.assumptions l.state.trail;
   on : IsOnSchedule l.schedule l.state.conflicts;
+  tidies : l.state.tidies ≡ l.fn.state.tidies;
   log : GoesOn g.L.Sink l.fn.log None l.log;
 }
 

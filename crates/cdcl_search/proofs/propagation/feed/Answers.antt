@@ -1,4 +1,4 @@
-use Rattle.std.proofs.Common.{◌≡◌, ◌≤◌, ◌+◌, sym, ap, ◌∙◌, subst, true, not, List, [], Option, arith}
+use Rattle.std.proofs.Common.{◌≡◌, ◌≤◌, ◌+◌, refl, sym, ap, ◌∙◌, subst, true, not, List, [], Option, arith}
 use Rattle.cx_base.specs.declared.steps.LogEvent.{LogEvent}
 use Rattle.parity_engine.specs.declared.state.Mood.TheVariants.{Busy, Broken}
 use Rattle.parity_engine.specs.State.{State, assigned, held_at, is_unassigned}
@@ -53,4 +53,4 @@ returns-clause-stays g c =
     let past = c.loop-place-test.false in
     let all : c.loop-place.place ≡ c.len-state.result = let high = up (omega (arith, few, n)) in omega (arith, n, m, high, past) in
     subst (λ k. SearchStands c.args.formula.now (record c.args.state.now { given = k }) (g.P.ParityEngine.state c.loop-place.engine) [] told) all (c.loop-place.invariant.stands told stands) in
-    record { stands = stays; unbroken = c.loop-place.invariant.unbroken }
+    record { stands = stays; unbroken = c.loop-place.invariant.unbroken; tidies = refl }

@@ -9,4 +9,4 @@ returns-clause-stands c formula e told stands =
 pub returns-clause-same : goal.returns-clause-same
 returns-clause-same c =
     let p = c.next_event-event.ensures.propagates in
-    (p.level, refl, refl, refl, record { more = p.more; parts = p.grown; level = p.level; variables = p.variables })
+    (p.level, refl, refl, refl, record { more = p.more; parts = p.grown; level = p.level; variables = p.variables }, refl)

@@ -59,7 +59,7 @@ pub returns-in-Quiet-clause-same : goal.returns-in-Quiet-clause-same
 returns-in-Quiet-clause-same g c = same_rests c.args.state.now
 
 pub returns-in-Implied-clause-same : goal.returns-in-Implied-clause-same
-returns-in-Implied-clause-same g c = (ap (λ (t : TrailState). t.level) c.imply.ensures.pushed, refl, refl, refl, subst (IsLonger c.args.state.now.trail) (sym c.imply.ensures.pushed) (longer_by_one c.args.state.now.trail c.in-Implied.literal (reason.Row c.in-Implied.row)))
+returns-in-Implied-clause-same g c = (ap (λ (t : TrailState). t.level) c.imply.ensures.pushed, refl, refl, refl, subst (IsLonger c.args.state.now.trail) (sym c.imply.ensures.pushed) (longer_by_one c.args.state.now.trail c.in-Implied.literal (reason.Row c.in-Implied.row)), refl)
 
 pub returns-in-Conflict-clause-same : goal.returns-in-Conflict-clause-same
 returns-in-Conflict-clause-same g c = same_rests c.args.state.now

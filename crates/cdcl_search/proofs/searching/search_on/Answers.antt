@@ -17,6 +17,7 @@ loop-reached-preserved g c =
       keeps = c.turn.ensures.keeps;
       settled = λ s. absurd (true≢false (sym (rw c.in_default.is at (c.in_ok-reached.ensures.settled s).0)));
       conflicts = c.turn.ensures.searches_on.conflicts ∙ i.conflicts;
+      tidies = c.turn.ensures.searches_on.tidies ∙ i.tidies;
       log = log_then g.L.Sink g.met.L.Sink.keeps_on _ _ _ _ i.log c.in_ok-reached.ensures.searches_on.log;
     }
 
@@ -38,6 +39,7 @@ loop-reached-init g c = record {
   keeps = c.requires.keeps;
   settled = λ s. refl;
   conflicts = refl;
+  tidies = refl;
   log = log_rests g.L.Sink g.met.L.Sink.keeps_itself c.args.log.now;
 }
 
@@ -50,6 +52,7 @@ returns-in_err-reached-clause-searches_on g c =
     rw (fault.1, fault.2) (record {
       stands = tt;
       conflicts = c.turn.ensures.searches_on.conflicts ∙ c.loop-reached.invariant.conflicts;
+      tidies = c.turn.ensures.searches_on.tidies ∙ c.loop-reached.invariant.tidies;
       log = log_then g.L.Sink g.met.L.Sink.keeps_on _ _ _ _ c.loop-reached.invariant.log c.in_err-reached.ensures.searches_on.log;
     })
 
@@ -57,5 +60,6 @@ pub returns-in-Some-clause-searches_on : goal.returns-in-Some-clause-searches_on
 returns-in-Some-clause-searches_on g c = record {
   stands = c.in_ok-reached.ensures.searches_on.stands;
   conflicts = c.turn.ensures.searches_on.conflicts ∙ c.loop-reached.invariant.conflicts;
+  tidies = c.turn.ensures.searches_on.tidies ∙ c.loop-reached.invariant.tidies;
   log = log_then g.L.Sink g.met.L.Sink.keeps_on _ _ _ _ c.loop-reached.invariant.log c.in_ok-reached.ensures.searches_on.log;
 }

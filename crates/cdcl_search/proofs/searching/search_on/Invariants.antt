@@ -12,6 +12,7 @@ invariant-loop-reached g l = record {
   settled : SettledWithRecovered l.log.formula.now → l.state.trail.level ≡ l.fn.state.trail.level;
   keeps : KeepsAssumptions l.log.formula.now.constraints l.assumptions l.state.trail;
   conflicts : l.state.conflicts ≡ l.fn.state.conflicts;
+  tidies : l.state.tidies ≡ l.fn.state.tidies;
   log : GoesOn g.L.Sink l.fn.log None l.log;
 }
 

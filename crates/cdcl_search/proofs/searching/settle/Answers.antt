@@ -39,6 +39,7 @@ pub returns-in-Some-clause-searches_on : goal.returns-in-Some-clause-searches_on
 returns-in-Some-clause-searches_on g c = record {
   stands = c.in_ok-tell_units.ensures.stands_on.stands;
   conflicts = c.tell_units.ensures.same.conflicts ∙ c.propagate-found.ensures.same.2;
+  tidies = c.tell_units.ensures.same.tidies ∙ c.propagate-found.ensures.same.5;
   log = c.in_ok-tell_units.ensures.stands_on.log;
 }
 
@@ -46,6 +47,7 @@ pub returns-in-None-clause-searches_on : goal.returns-in-None-clause-searches_on
 returns-in-None-clause-searches_on g c = record {
   stands = c.in_ok-tell_units.ensures.stands_on.stands;
   conflicts = c.tell_units.ensures.same.conflicts ∙ c.propagate-found.ensures.same.2;
+  tidies = c.tell_units.ensures.same.tidies ∙ c.propagate-found.ensures.same.5;
   log = c.in_ok-tell_units.ensures.stands_on.log;
 }
 
@@ -55,5 +57,6 @@ returns-in_err-tell_units-clause-searches_on g c =
     rw (fault.1, fault.2) (record {
       stands = tt;
       conflicts = c.tell_units.ensures.same.conflicts ∙ c.propagate-found.ensures.same.2;
+      tidies = c.tell_units.ensures.same.tidies ∙ c.propagate-found.ensures.same.5;
       log = c.in_err-tell_units.ensures.stands_on.log;
     })

@@ -15,6 +15,7 @@ pub returns-then-decide-clause-searches_on : goal.returns-then-decide-clause-sea
 returns-then-decide-clause-searches_on g c = record {
   stands = c.decide.ensures.stays.stands (g.L.Sink.items c.settle.new.log.sink.now) c.in_ok-reached.ensures.searches_on.stands;
   conflicts = c.decide.ensures.same.1 ∙ c.in_ok-reached.ensures.searches_on.conflicts;
+  tidies = c.decide.ensures.stays.tidies ∙ c.in_ok-reached.ensures.searches_on.tidies;
   log = c.in_ok-reached.ensures.searches_on.log;
 }
 
@@ -22,6 +23,7 @@ pub returns-clause-searches_on : goal.returns-clause-searches_on
 returns-clause-searches_on g c = record {
   stands = c.decide.ensures.stays.stands (g.L.Sink.items c.settle.new.log.sink.now) c.in_ok-reached.ensures.searches_on.stands;
   conflicts = c.decide.ensures.same.1 ∙ c.in_ok-reached.ensures.searches_on.conflicts;
+  tidies = c.decide.ensures.stays.tidies ∙ c.in_ok-reached.ensures.searches_on.tidies;
   log = c.in_ok-reached.ensures.searches_on.log;
 }
 
