@@ -166,10 +166,6 @@ module _ (formula : Problem) (c : SearchState) (e : State) (lits : List Literal)
             )
           ]
 
-pub enters_tidies : (old new : SearchState) (lits : List Literal) (id lbd : ℕ) → Enters old new lits id lbd → new.tidies ≡ old.tidies
-enters_tidies old new lits id lbd (inl (one, unit)) = unit.put.tidies
-enters_tidies old new lits id lbd (inr (several, clause)) = clause.put.tidies
-
 -- the first of a list that is not empty
 pub first_any : (xs : List Literal) (d e : Literal) → 1 ≤ length xs → get_or xs 0 d ≡ get_or xs 0 e
 first_any [] d e h = absurd (omega (arith, h))

@@ -1,5 +1,5 @@
 -- A row whose clause would end the log ends it with the empty clause at level 0, once the negation of each of its literals has a unit clause.
-use Rattle.std.proofs.Common.{◌≡◌, refl, sym, ap, ◌∙◌, subst, ℕ, ◌+◌, ◌<◌, ◌≤◌, ℤ, true, false, ◌&&◌, List, [], ◌∷◌, ◌++◌, map, length, get_or, is_some, Option, Some, None, arith, inl, inr, true≢false, append_assoc, length-append}
+use Rattle.std.proofs.Common.{◌≡◌, refl, sym, ap, ◌∙◌, subst, ℕ, ◌+◌, ◌<◌, ◌≤◌, ℤ, Bool, true, false, ◌&&◌, List, [], ◌∷◌, ◌++◌, map, length, get_or, is_some, Option, Some, None, arith, inl, inr, true≢false, append_assoc, length-append}
 use Rattle.std.specs.List.{AllByRecursion, cons_option}
 use Rattle.std.specs.FinMap as map_
 use Rattle.std.proofs.lemmas.Bool.{and_from}

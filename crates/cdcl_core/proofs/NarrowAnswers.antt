@@ -1,5 +1,5 @@
 -- What a search over fewer variables comes to is right over more.
-use Rattle.std.proofs.Common.{◌≡◌, refl, sym, subst, ℕ, ◌≤◌, true, List, [], ◌∷◌, map, max, flat_map, fold, Option, None, Some, Ok, Err, arith, inl, inr}
+use Rattle.std.proofs.Common.{◌≡◌, refl, sym, subst, ℕ, ◌≤◌, true, false, List, [], ◌∷◌, map, max, flat_map, fold, Option, None, Some, Ok, Err, arith, inl, inr}
 use Rattle.std.specs.List.{AllByRecursion}
 use Rattle.cx_base.specs.Assumptions.{assumes, assumptions_of, assuming, without_assumptions, IsFailed}
 use Rattle.cx_base.specs.Events.{steps_of}
@@ -78,7 +78,7 @@ module _ (m : ℕ) (formula : Problem) (few : m ≤ formula.variables) (within :
   left_over_more (Some events) (inl goes_on) = inl (open_over_more m formula few (steps_of events) goes_on)
   left_over_more (Some events) (inr ended) = inr (ended_over_more events ended)
 
-  open_with_over_more : (n : ℕ) (told : Option (List LogEvent)) → IsOpenWith (over m formula) n told → IsOpenWith formula n told
+  open_with_over_more : (n : ℕ) (told : Option (List LogEvent)) → IsOpenWith false (over m formula) n told → IsOpenWith false formula n told
   open_with_over_more n None h = h
   open_with_over_more n (Some events) h = (open_over_more m formula few (steps_of events) h.0, marked_over_more m formula few events n h.1, h.2, h.3, bounded_over_more formula m n events few h.4)
 

@@ -15,7 +15,7 @@ use Rattle.search_steps.specs.Search.{IsSearchIn}
 use Rattle.cdcl_search.proofs.Outcomes.{on_ok}
 use Rattle.cdcl_core.specs.Entering.{Enters}
 use Rattle.cdcl_core.proofs.Entering.{round_is_search}
-use Rattle.cdcl_core.proofs.JumpLaws.{falling_short, lower_than_now, scores_within, alone_at_zero, first_is_high, first_is_open, can_be_watched, enters_stands, enters_tidies}
+use Rattle.cdcl_core.proofs.JumpLaws.{falling_short, lower_than_now, scores_within, alone_at_zero, first_is_high, first_is_open, can_be_watched, enters_stands}
 use Rattle.cdcl_core.proofs.jumping.jump.Goals as goal
 
 pub go_back-requires-clause-lower : goal.go_back-requires-clause-lower
@@ -61,12 +61,13 @@ returns-clause-stands g c = on_ok _ c.enter.result c.enter.ensures (λ enters to
     let f = c.args.formula.now in
     let e = g.P.ParityEngine.state c.args.engine.now in
     let learned = c.args.learned.now in
+    let tidies : c.enter.new.state.tidies ≡ c.args.state.now.tidies = elim enters [ inl (one, unit) ↦ unit.put.tidies ∙ c.go_back.ensures.back.counts.tidies | inr (several, clause) ↦ clause.put.tidies ∙ c.go_back.ensures.back.counts.tidies ] in
     let now = enters_stands f c.args.state.now e learned.lits learned.back_level l.search l.taught
     c.go_back.new.state (g.P.ParityEngine.state c.go_back.new.engine) (c.go_back.ensures.back.ties l.taught.rows l.search l.taught.search l.taught.ties) c.go_back.ensures.back.watched c.go_back.ensures.back.back
     c.bump.new.order c.bump.ensures.standing c.bump.ensures.scores c.enter.new.state learned.lbd l.hints c.go_back.ensures.back.counts c.go_back.ensures.back.units
     (subst (λ xs. Enters (record c.go_back.new.state { order = c.bump.new.order; next = c.go_back.new.state.next + 1; conflicts = c.go_back.new.state.conflicts + 1; learned = c.go_back.new.state.learned + 1 }) c.enter.new.state xs c.go_back.new.state.next learned.lbd) c.as_slice.ensures enters) in (
       after_round l.search c.args.state.now.next (integers_of learned.lits) l.hints learned.back_level l.taught.first,
-      subst (λ b. IsSearchIn b f (g.P.ParityEngine.state c.go_back.new.engine).parities (after_round l.search c.args.state.now.next (integers_of learned.lits) l.hints learned.back_level l.taught.first)) (sym (enters_tidies _ c.enter.new.state _ _ _ enters ∙ c.go_back.ensures.back.counts.tidies))
+      subst (λ b. IsSearchIn b f (g.P.ParityEngine.state c.go_back.new.engine).parities (after_round l.search c.args.state.now.next (integers_of learned.lits) l.hints learned.back_level l.taught.first)) (sym tidies)
           (subst (λ ps. IsSearchIn c.args.state.now.tidies f ps (after_round l.search c.args.state.now.next (integers_of learned.lits) l.hints learned.back_level l.taught.first)) (sym c.go_back.ensures.back.parities) (round_is_search f c.args.state.now e learned.lits learned.back_level l.search l.taught l.hints l.right)),
       l.told_is,
       now.0,
@@ -74,7 +75,10 @@ returns-clause-stands g c = on_ok _ c.enter.result c.enter.ensures (λ enters to
     ))
 
 pub returns-clause-tidies : goal.returns-clause-tidies
-returns-clause-tidies g c = on_ok _ c.enter.result c.enter.ensures (λ enters. enters_tidies _ c.enter.new.state _ _ _ enters ∙ c.go_back.ensures.back.counts.tidies)
+returns-clause-tidies g c = on_ok _ c.enter.result c.enter.ensures (λ enters. elim enters [
+  | inl (one, unit) ↦ unit.put.tidies ∙ c.go_back.ensures.back.counts.tidies
+  | inr (several, clause) ↦ clause.put.tidies ∙ c.go_back.ensures.back.counts.tidies
+])
 
 pub returns-clause-level : goal.returns-clause-level
 returns-clause-level g c = on_ok _ c.enter.result c.enter.ensures (λ enters. elim enters [

@@ -15,6 +15,7 @@ loop-assumptions-preserved g c =
     let i = c.loop-assumptions.invariant in
     let leaves = c.in_ok-outcome.ensures.leaves in
     let goes_on = rw c.in_default.is at leaves.goes_on in
+    let still = rw c.in_default.is at leaves.tidies in
     let then = c.in_ok-follow_schedule.ensures in
     record {
       goes_on = record {
@@ -26,7 +27,7 @@ loop-assumptions-preserved g c =
       clear = leaves.clear;
       keeps = then.keeps;
       on = then.on;
-      tidies = then.searches_on.tidies ∙ rw c.in_default.is at leaves.tidies ∙ i.tidies;
+      tidies = then.searches_on.tidies ∙ still ∙ i.tidies;
       log = log_then g.L.Sink g.met.L.Sink.keeps_on _ c.round.new.log _ _ (log_then g.L.Sink g.met.L.Sink.keeps_on _ c.loop-assumptions.log _ _ i.log leaves.log) then.searches_on.log;
     }
 
