@@ -2,6 +2,7 @@
 use Rattle.std.proofs.Common.{◌≡◌, refl, sym, ap, ◌∙◌, ℕ, ℤ, pos, negsuc, suc, ◌+◌, ◌-◌, ◌<◌, ◌≤◌, ◌^◌, Bool, true, false, cond, nat_lt, List, [], ◌∷◌, ◌++◌, length, take, drop, map, set, get_or, length-drop, append_assoc, arith}
 use Rattle.std.proofs.lemmas.Bool.{ltb-false}
 use Rattle.std.proofs.lemmas.List.{drop-append-le, take-append-le, take_all, drop_all, take_more, take_more_set, drop_more, get_or-drop, map_push, length-take-le}
+use Rattle.std.proofs.Math.Seq.{drop-append-add}
 use Rattle.proof_trim.specs.Integers.{part, signed, unsigned}
 
 -- ---- a part of a list
@@ -17,6 +18,12 @@ module _ {A : Type 0} (xs more : List A) (s e : ℕ) where
   part_last h k =
       ap (take (e - s)) (drop-append-le s xs more (omega arith) ∙ ap (λ zs. zs ++ more) (drop_all s xs (omega arith)))
       ∙ take_all (e - s) more (omega arith)
+
+  pub part_past : length xs ≤ s → s ≤ e → part (xs ++ more) s e ≡ part more (s - length xs) (e - length xs)
+  part_past h k =
+      let from : s ≡ length xs + (s - length xs) = omega arith in
+      let count : e - s ≡ (e - length xs) - (s - length xs) = omega arith in
+      (λ i. take (count i) (drop (from i) (xs ++ more))) ∙ ap (take ((e - length xs) - (s - length xs))) (drop-append-add xs more (s - length xs))
 
 module _ {A : Type 0} (xs : List A) (s e : ℕ) (d : A) where
   pub part_begins : s < e → e ≤ length xs → part xs s e ≡ get_or xs s d ∷ part xs (s + 1) e

@@ -47,6 +47,16 @@ pub(crate) fn unsigned(integer: i64) -> u64
     }
 }
 
+/// Copies integers of 16 bits to the first places of a list.
+fn copy_short(from: &[i16], into: &mut [i64])
+    requires room { length from.now ≤ length into.old }
+    ensures copied { take (length from.now) into.new ≡ from.now }
+{
+    for place in 0..from.len() {
+        into[place] = i64::from(from[place]);
+    }
+}
+
 impl Integers {
     /// No integer yet.
     pub(crate) fn new(alloc: Global) -> Integers
@@ -87,6 +97,8 @@ impl Integers {
     }
 
     /// Puts integers after the others.
+    // Most lists are so short that a call would cost as much.
+    #[inline(always)]
     pub(crate) fn extend(&mut self, more: &[i64]) -> Result<(), AllocError>
         ensures { OnOk result (self.new ≡ self.old ++ more.now) }
     {
@@ -144,8 +156,15 @@ impl Integers {
         ensures copied { take (end - start) into.new.items ≡ part self.now start end }
         ensures room { length into.new.items ≡ length into.old.items }
     {
-        for place in start..end {
-            into[place - start] = self.at(place);
+        let short = self.short.len();
+        if end <= short {
+            copy_short(&self.short[start..end], into);
+        } else if short <= start {
+            self.longer.copy(start - short, end - short, into);
+        } else {
+            for place in start..end {
+                into[place - start] = self.at(place);
+            }
         }
     }
 

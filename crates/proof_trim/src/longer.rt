@@ -1,5 +1,6 @@
 //! Integers of 32 bits, up to the first that needs more.
-ghost use Rattle.std.specs.Prelude.{◌≡◌, ◌<◌, ◌^◌, ◌++◌, ◌∷◌, [], nat_eq, length, pos, get_or, OnOk};
+ghost use Rattle.std.specs.Prelude.{◌≡◌, ◌<◌, ◌≤◌, ◌-◌, ◌^◌, ◌++◌, ◌∷◌, [], nat_eq, length, pos, take, get_or, OnOk};
+ghost use Rattle.proof_trim.specs.Integers.{part};
 
 use std::alloc::{AllocError, Global};
 use std::marker::Model;
@@ -21,6 +22,16 @@ impl Model for LongerIntegers {
     ghost view = { λ a. a.narrow.items ++ a.wide.items };
 
     ghost invariant = { λ a. length a.narrow.items + length a.wide.items < 2 ^ 63 };
+}
+
+/// Copies integers of 32 bits to the first places of a list.
+fn copy_narrow(from: &[i32], into: &mut [i64])
+    requires room { length from.now ≤ length into.old }
+    ensures copied { take (length from.now) into.new ≡ from.now }
+{
+    for place in 0..from.len() {
+        into[place] = i64::from(from[place]);
+    }
 }
 
 impl LongerIntegers {
@@ -78,6 +89,23 @@ impl LongerIntegers {
             i64::from(self.narrow[place])
         } else {
             self.wide[place - self.narrow.len()]
+        }
+    }
+
+    /// Copies the integers from start up to end to the first places of a list.
+    pub(crate) fn copy(&self, start: usize, end: usize, into: &mut Vec<i64>)
+        requires low { start ≤ end }
+        requires high { end ≤ length self.now }
+        requires room { end - start ≤ length into.old.items }
+        ensures copied { take (end - start) into.new.items ≡ part self.now start end }
+        ensures room { length into.new.items ≡ length into.old.items }
+    {
+        if end <= self.narrow.len() {
+            copy_narrow(&self.narrow[start..end], into);
+        } else {
+            for place in start..end {
+                into[place - start] = self.at(place);
+            }
         }
     }
 

@@ -40,6 +40,7 @@ impl NameSet {
     }
 
     /// Whether the constraint of this kind and id is in it.
+    #[inline(always)]
     pub(crate) fn has(&self, kind: Kind, id: u64) -> bool
         ensures { result ≡ has_name self.now (name_of kind id) }
     {
@@ -87,6 +88,7 @@ impl NameSet {
     }
 
     /// Takes a name out, if it is in it.
+    #[inline(always)]
     pub(crate) fn remove(&mut self, kind: Kind, id: u64)
         ensures { Has self.new (λ name. not (same_name name (name_of kind id)) && has_name self.old name) }
     {
@@ -97,6 +99,7 @@ impl NameSet {
     }
 
     /// Takes a name out: whether it was in it.
+    #[inline(always)]
     pub(crate) fn take(&mut self, kind: Kind, id: u64) -> bool
         ensures had { result ≡ has_name self.old (name_of kind id) }
         ensures out { Has self.new (λ name. not (same_name name (name_of kind id)) && has_name self.old name) }

@@ -76,6 +76,7 @@ impl OpenedStep {
     }
 
     /// Takes the step out whose integers lie from start up to end.
+    #[inline(always)]
     pub(crate) fn fill(&mut self, packed: &Integers, start: usize, end: usize)
         requires low { start ≤ end }
         requires high { end ≤ length packed.now }
