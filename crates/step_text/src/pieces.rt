@@ -63,17 +63,45 @@ fn put_few_ids<D: Desk>(desk: &mut D, port: Port, members: &[u64]) -> Result<(),
     put_all(desk, port, &sheet[begin..])
 }
 
+/// As many ids as a sheet has room for, each after a space, in one piece.
+fn put_sheet_of_ids<D: Desk>(
+    sheet: &mut LineSheet,
+    desk: &mut D,
+    port: Port,
+    members: &[u64],
+) -> Result<(), Failed>
+    requires { length members.now ≤ MANY }
+    ensures { PutsAll port (flat_map spaced_id members.now) (D.outside desk.old) result (D.outside desk.new) }
+{
+    let sheet = &mut sheet.bytes[..];
+    let end = sheet.len();
+    let begin = lay_out_ids(members, sheet, end);
+    put_all(desk, port, &sheet[begin..])
+}
+
+/// Many ids, each after a space, in pieces as long as there is room for: each piece of an answer goes to the system by itself.
+fn put_many_ids<D: Desk>(desk: &mut D, port: Port, members: &[u64]) -> Result<(), Failed>
+    ensures { PutsAll port (flat_map spaced_id members.now) (D.outside desk.old) result (D.outside desk.new) }
+{
+    let mut sheet = LineSheet::new();
+    let mut done = 0;
+    while done < members.len() {
+        let next = members.len().min(done + MANY);
+        put_sheet_of_ids(&mut sheet, desk, port, &members[done..next])?;
+        done = next;
+    }
+    Ok(())
+}
+
 /// Ids, each after a space.
 fn put_each_id<D: Desk>(desk: &mut D, port: Port, members: &[u64]) -> Result<(), Failed>
     ensures { PutsAll port (flat_map spaced_id members.now) (D.outside desk.old) result (D.outside desk.new) }
 {
-    let mut done = 0;
-    while done < members.len() {
-        let next = members.len().min(done + AT_ONCE);
-        put_few_ids(desk, port, &members[done..next])?;
-        done = next;
+    if members.len() <= AT_ONCE {
+        put_few_ids(desk, port, members)
+    } else {
+        put_many_ids(desk, port, members)
     }
-    Ok(())
 }
 
 /// Integers with the zero that ends them, and a text.

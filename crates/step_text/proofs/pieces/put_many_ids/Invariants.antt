@@ -2,7 +2,7 @@ use Rattle.std.proofs.Common.{◌≡◌, ◌≤◌, ◌-◌, length, take}
 use Rattle.std.specs.List.{flat_map}
 use Rattle.cx_desk.specs.Calls.{gained}
 use Rattle.step_text.specs.Spaced.{spaced_id}
-use Rattle.step_text.proofs.pieces.put_each_id.Given as goal
+use Rattle.step_text.proofs.pieces.put_many_ids.Given as goal
 
 abbrev pub invariant-loop-done : goal.invariant-loop-done
 invariant-loop-done g l = record {
