@@ -71,7 +71,7 @@ pub fn delete_clause(
 }
 
 /// Takes a parity out of the log, and out of the proof where it was added there.
-#[inline(always)]
+#[inline(never)]
 pub fn delete_parity(
     count: u64,
     state: &mut State,

@@ -10,6 +10,7 @@ use proof_rules::{JudgeRefusal, Kind};
 use std::alloc::Global;
 
 /// Moves clauses of the log under other ids. The proof gains nothing.
+#[inline(never)]
 pub fn move_clauses(
     alloc: Global,
     state: &mut State,
@@ -28,6 +29,7 @@ pub fn move_clauses(
 }
 
 /// Moves parities of the log under other ids. The proof gains nothing.
+#[inline(never)]
 pub fn move_parities(
     alloc: Global,
     state: &mut State,

@@ -153,6 +153,8 @@ impl Names {
     }
 
     /// The next id of the proof stands for this id from now on.
+    // Each step that adds something calls it once.
+    #[inline(always)]
     pub fn put_next(&mut self, id: u64) -> Result<ProofId, AllocError>
         requires { self.old.last < MAX_ID }
         ensures next { IfOk result (λ next. next ≡ self.old.last + 1) }

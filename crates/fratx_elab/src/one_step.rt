@@ -41,6 +41,7 @@ impl Elaboration<'_> {
     /// Judges a step, and where it is right does it and gives what the proof gains, if anything.
     ///
     /// After an error the state is spoilt.
+    // Clauses and their deletions are inlined. All other steps are calls: inlined too, they would have each clause clear room for them.
     #[inline(always)]
     pub fn take_step(
         &self,

@@ -131,6 +131,8 @@ fn shorten(alloc: Global, hints: &mut IntList, count: usize)
 
 /// A list of live hints that is a right chain for the clause, or that there is none. The given hints are tried from the last to the
 /// first, since a solver may meet them from the conflict back.
+// Apart, so that hints that are right pay for nothing of it.
+#[inline(never)]
 fn chain_of(
     alloc: Global,
     live: &mut IndexedClauses,
@@ -214,6 +216,7 @@ impl Elaboration<'_> {
     }
 
     /// A clause of the formula: nothing is written.
+    #[inline(never)]
     pub fn take_original(
         &self,
         state: &mut State,
@@ -242,6 +245,7 @@ impl Elaboration<'_> {
     }
 
     /// A parity of the formula: nothing is written.
+    #[inline(never)]
     pub fn take_original_parity(
         &self,
         state: &mut State,
@@ -305,7 +309,7 @@ impl Elaboration<'_> {
     }
 
     /// A parity as the sum of parities that the log names.
-    #[inline(always)]
+    #[inline(never)]
     pub fn take_parity(
         &self,
         state: &mut State,
@@ -337,7 +341,7 @@ impl Elaboration<'_> {
     }
 
     /// A parity that clauses imply, which the log names.
-    #[inline(always)]
+    #[inline(never)]
     pub fn take_parity_of_clauses(
         &self,
         state: &mut State,
@@ -373,7 +377,7 @@ impl Elaboration<'_> {
     }
 
     /// A clause that a parity implies, which the log names.
-    #[inline(always)]
+    #[inline(never)]
     pub fn take_clause_of_parity(
         &self,
         state: &mut State,
