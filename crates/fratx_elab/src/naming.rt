@@ -172,11 +172,26 @@ impl Names {
     {
         match &mut self.ids {
             Standing::Themselves(ids) => {
-                if !ids.put(id, number)? {
-                    let mut numbers = ids.numbers(self.alloc, self.last)?;
-                    numbers.insert(id, number)?;
-                    self.ids = Standing::Numbered(numbers);
+                if ids.put(id, number)? {
+                    return Ok(());
                 }
+            }
+            Standing::Numbered(ids) => return ids.insert(id, number),
+        }
+        self.put_numbered(id, number)
+    }
+
+    /// This number stands for this id from now on, and each id is kept with its number.
+    // Apart, since it is done once, and no other id is to clear the room that it takes.
+    #[inline(never)]
+    fn put_numbered(&mut self, id: u64, number: ProofId) -> Result<(), AllocError>
+        ensures { OnOk result (self.new ≡ name_original self.old id number) }
+    {
+        match &mut self.ids {
+            Standing::Themselves(ids) => {
+                let mut numbers = ids.numbers(self.alloc, self.last)?;
+                numbers.insert(id, number)?;
+                self.ids = Standing::Numbered(numbers);
             }
             Standing::Numbered(ids) => ids.insert(id, number)?,
         }
