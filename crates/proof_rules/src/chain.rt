@@ -9,7 +9,7 @@ ghost use Rattle.proof_rules.specs.Kinds.{hinted, names_live, all_named};
 
 use crate::JudgeRefusal;
 use crate::hints::{id_of, judge_hints};
-use crate::literal_set::LiteralSet;
+use crate::literal_set::{LiteralSet, is_marked};
 use crate::live::{Kind, Live};
 use cx_base::Lit;
 use cx_semantics::Cause;
@@ -57,9 +57,10 @@ fn with(found: LeftOf, lit: Lit) -> LeftOf
 pub fn left_of(assumed: &LiteralSet, clause: &[Lit]) -> LeftOf
     ensures { left_seen result ≡ count_left (left assumed.now clause.now) }
 {
+    let marks = assumed.marks();
     let mut found = LeftOf::Nothing;
     for lit in clause {
-        if !assumed.contains(lit.negate()) {
+        if !is_marked(marks, lit.negate()) {
             found = with(found, *lit);
         }
     }

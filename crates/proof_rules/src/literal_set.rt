@@ -11,7 +11,7 @@ use std::marker::Model;
 /// A set of literals, which a contract sees as a list of them in some order.
 ///
 /// It has a mark for each code up to the greatest that was in it so far: a look-up is one access, clearing it costs
-/// the literals that it has, and what is put in again takes no memory.
+/// what was put in since it was empty, and as much takes no new memory after that.
 #[derive(Drop)]
 pub struct LiteralSet {
     /// Whether the literal of each code is in the set.
@@ -31,16 +31,18 @@ impl Model for LiteralSet {
     ghost invariant = { λ a. AreMarks a.marks.items a.lits.items };
 }
 
-/// Whether there is a mark at the place.
-fn is_marked(marks: &[bool], place: usize) -> bool
-    ensures { result ≡ get_or marks.now place false }
+/// Whether there is a mark at the literal's code.
+#[inline(always)]
+pub(crate) fn is_marked(marks: &[bool], lit: Lit) -> bool
+    ensures { result ≡ get_or marks.now (code_of lit) false }
 {
+    let place = lit.code();
     place < marks.len() && marks[place]
 }
 
 /// Takes the mark at the place away, if there is one.
-fn clear_mark(marks: &mut Vec<bool>, place: usize)
-    ensures { marks.new.items ≡ set marks.old.items place false }
+fn clear_mark(marks: &mut [bool], place: usize)
+    ensures { marks.new ≡ set marks.old place false }
 {
     if place < marks.len() {
         marks[place] = false;
@@ -72,8 +74,8 @@ fn reach(marks: &mut Vec<bool>, place: usize) -> Result<(), AllocError>
 }
 
 /// Takes the marks of literals away.
-fn unmark(marks: &mut Vec<bool>, lits: &[Lit])
-    ensures { AreMarkedOnly marks.old.items lits.now → (l : Literal) → get_or marks.new.items (code_of l) false ≡ false }
+fn unmark(marks: &mut [bool], lits: &[Lit])
+    ensures { AreMarkedOnly marks.old lits.now → (l : Literal) → get_or marks.new (code_of l) false ≡ false }
 {
     for lit in lits {
         clear_mark(marks, lit.code());
@@ -111,19 +113,24 @@ impl LiteralSet {
     pub fn contains(&self, lit: Lit) -> bool
         ensures { result ≡ has_literal self.now lit }
     {
-        is_marked(&self.marks, lit.code())
+        is_marked(&self.marks, lit)
     }
 
-    /// Puts a literal in. Without memory nothing changes.
-    // A chain calls it once for each hint, and the call would cost a third of that.
+    /// The marks at the literals' codes. A loop over literals has them at hand, and does not ask the set for them at each.
+    #[inline(always)]
+    pub(crate) fn marks(&self) -> &[bool]
+        ensures { AreMarks result.now self.now }
+    {
+        &self.marks
+    }
+
+    /// Puts a literal in. Without memory nothing changes. One that the set has comes into the list again.
+    // A chain calls it once for each hint, and the call would cost a third of that; the literal is nearly always new.
     #[inline(always)]
     pub fn insert(&mut self, lit: Lit) -> Result<(), AllocError>
         ensures ok { OnOk result (HaveSame self.new (lit ∷ self.old)) }
         ensures err { OnErr result (self.new ≡ self.old) }
     {
-        if self.contains(lit) {
-            return Ok(());
-        }
         self.lits.reserve(1)?;
         put(&mut self.marks, &mut self.lits, lit)
     }

@@ -3,4 +3,4 @@ use Rattle.proof_rules.specs.LiteralSets.{AreMarkedOnly}
 use Rattle.proof_rules.proofs.literal_set.unmark.Given as goal
 
 abbrev pub invariant-loop-lit : goal.invariant-loop-lit
-invariant-loop-lit l = AreMarkedOnly l.initial.marks.items l.lits → AreMarkedOnly l.marks.items (drop l.lit-index l.lits)
+invariant-loop-lit l = AreMarkedOnly l.initial.marks l.lits → AreMarkedOnly l.marks (drop l.lit-index l.lits)
