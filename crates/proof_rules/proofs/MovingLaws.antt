@@ -110,6 +110,13 @@ module _ {V : Type 0} where
       let apart = or_parts (list_any (nat_eq m.from) (old_ids moves)) (names_twice (old_ids moves)) once.1 in
       ap (λ values. map_.get contents m.from ∷ values) (taken_at_once moves (map_.remove contents m.from) rest.1 ∙ values_apart contents m.from moves apart.0)
 
+  -- and where no old id is named twice it is that too, or nothing
+  pub apart_at_once : (moves : List IdMove) (contents : map_.FinMap nat_cmp V) → names_twice (old_ids moves) ≡ false → taken_in_turn contents moves ≡ values_for contents moves
+  apart_at_once [] contents h = refl
+  apart_at_once (m ∷ moves) contents h =
+      let apart = or_parts (list_any (nat_eq m.from) (old_ids moves)) (names_twice (old_ids moves)) h in
+      ap (λ values. map_.get contents m.from ∷ values) (apart_at_once moves (map_.remove contents m.from) apart.1 ∙ values_apart contents m.from moves apart.0)
+
   module _ (contents : map_.FinMap nat_cmp V) (moves : List IdMove) (r : Bool) where
     abbrev first_test : Bool
     first_test = list_any (λ n. not (map_.contains_key contents n)) (old_ids moves) || names_twice (old_ids moves)

@@ -112,7 +112,7 @@ either : {V : Type 0} (a b : Option V) → is_some (option_or a b) ≡ (is_some 
 either None b = refl
 either (Some v) b = refl
 
-or_none : {V : Type 0} (o : Option V) → option_or o None ≡ o
+pub or_none : {V : Type 0} (o : Option V) → option_or o None ≡ o
 or_none None = refl
 or_none (Some v) = refl
 

@@ -51,6 +51,10 @@ value_under id entries = lookup (λ k. is_eq (nat_cmp id k)) entries
 abbrev pub IsTakenOut : {V : Type 0} → ℕ → List (ℕ × V) → List (ℕ × V) → Type 0
 IsTakenOut id old new = (q : ℕ) → value_under q new ≡ cond (is_eq (nat_cmp id q)) None (value_under q old)
 
+-- the new entries have this value under this id, and under each other one what the old ones have
+abbrev pub IsPutUnder : {V : Type 0} → ℕ → V → List (ℕ × V) → List (ℕ × V) → Type 0
+IsPutUnder id v old new = (q : ℕ) → value_under q new ≡ cond (is_eq (nat_cmp id q)) (Some v) (value_under q old)
+
 -- an id is in the list exactly where it has a value
 abbrev pub HasKeys : {V : Type 0} → map.FinMap nat_cmp V → List ℕ → Type 0
 HasKeys values ids = (n : ℕ) → list_any (eq_by_cmp nat_cmp n) ids ≡ map.contains_key values n

@@ -3,7 +3,7 @@ ghost use Rattle.std.specs.Prelude.{◌≡◌, ◌<◌, ◌≤◌, false, OnOk, 
 ghost use Rattle.std.specs.FinMap as map;
 ghost use Rattle.std.specs.Map.{keys_of};
 ghost use Rattle.std.specs.Option.{option_or};
-ghost use Rattle.proof_rules.specs.Places.{entries_of, places_of, value_under, IsTakenOut, HasKeys};
+ghost use Rattle.proof_rules.specs.Places.{entries_of, places_of, value_under, IsPutUnder, IsTakenOut, HasKeys};
 
 use crate::page::{Filler, PLACES, Page};
 use std::alloc::{AllocError, Global};
@@ -103,7 +103,7 @@ impl<V: Drop + Filler> IdMap<V> {
             reach(&mut self.near, id)?;
             put_in_place(&mut self.near, id, value)?;
         } else {
-            self.far.insert(id, value)?;
+            put_far(&mut self.far, id, value)?;
         }
         self.added = self.added.saturating_add(1);
         Ok(())
@@ -131,8 +131,7 @@ impl<V: Copy + Drop + Filler> IdMap<V> {
     {
         let near = take_place(&mut self.near, id);
         make_idle(&mut self.near, &mut self.idle, id);
-        let far = take_far(&mut self.far, id);
-        first_of(near, far)
+        or_take_far(near, &mut self.far, id)
     }
 }
 
@@ -147,27 +146,40 @@ fn first_of<V: Copy + Drop>(near: Option<V>, far: Option<V>) -> Option<V>
     }
 }
 
-/// Takes out what the ordered map has under this id, and gives it, if it has something. Mostly the map is empty.
+/// The value at hand, if there is one, and otherwise what the ordered map has under this id. The map has nothing under it then. Mostly
+/// the map is empty.
 #[inline(always)]
-fn take_far<V: Copy + Drop>(far: &mut BTreeMap<u64, V>, id: u64) -> Option<V>
-    ensures taken { result ≡ value_under id far.old.entries }
+fn or_take_far<V: Copy + Drop>(near: Option<V>, far: &mut BTreeMap<u64, V>, id: u64) -> Option<V>
+    ensures taken { result ≡ option_or near (value_under id far.old.entries) }
     ensures gone { IsTakenOut id far.old.entries far.new.entries }
 {
     if far.is_empty() {
-        None
+        near
     } else {
-        far_value(far, id)
+        or_far_value(near, far, id)
     }
 }
 
-/// Takes out what the ordered map has under this id, and gives it, if it has something.
+/// The value at hand, if there is one, and otherwise what the ordered map has under this id. The map has nothing under it then.
 // Apart for the same reason as `remove_far`.
 #[inline(never)]
-fn far_value<V: Copy + Drop>(far: &mut BTreeMap<u64, V>, id: u64) -> Option<V>
-    ensures taken { result ≡ value_under id far.old.entries }
+fn or_far_value<V: Copy + Drop>(near: Option<V>, far: &mut BTreeMap<u64, V>, id: u64) -> Option<V>
+    ensures taken { result ≡ option_or near (value_under id far.old.entries) }
     ensures gone { IsTakenOut id far.old.entries far.new.entries }
 {
-    far.remove(&id)
+    let value = far.remove(&id);
+    first_of(near, value)
+}
+
+/// Puts a value under this id into the ordered map. Without memory nothing changes.
+// Apart for the same reason as `remove_far`.
+#[inline(never)]
+fn put_far<V: Drop>(far: &mut BTreeMap<u64, V>, id: u64, value: V) -> Result<(), AllocError>
+    ensures ok { OnOk result (IsPutUnder id value far.old.entries far.new.entries) }
+    ensures err { OnErr result (far.new.entries ≡ far.old.entries) }
+{
+    far.insert(id, value)?;
+    Ok(())
 }
 
 /// Takes out what the ordered map has under this id, if it has something. Mostly the map is empty.
@@ -253,7 +265,7 @@ fn make_idle<V: Drop + Filler>(near: &mut Vec<Page<V>>, idle: &mut usize, id: u6
     ensures { places_of near.new.items ≡ places_of near.old.items }
 {
     let page = (id / PLACES) as usize;
-    if page != *idle && is_vacant(near, page) {
+    if is_vacant(near, page) && page != *idle {
         trim(near, *idle);
         *idle = page;
     }

@@ -176,13 +176,23 @@ fn make_places<V: Drop + Filler>(places: &mut Vec<V>, taken: u64) -> Result<(), 
     ensures err { OnErr result (places.new.items ≡ places.old.items) }
 {
     if places.is_empty() {
-        *places = filled_places(*places.allocator())?;
+        fill_places(places)?;
     }
     Ok(())
 }
 
-/// The places of a page, none of which holds a value.
+/// Makes the list of places. Without memory nothing changes.
+// Mostly the list is there, and that path is not to pay for what this call keeps on the stack.
 #[inline(never)]
+fn fill_places<V: Drop + Filler>(places: &mut Vec<V>) -> Result<(), AllocError>
+    ensures made { OnOk result (length places.new.items ≡ 64) }
+    ensures err { OnErr result (places.new.items ≡ places.old.items) }
+{
+    *places = filled_places(*places.allocator())?;
+    Ok(())
+}
+
+/// The places of a page, none of which holds a value.
 fn filled_places<V: Drop + Filler>(alloc: Global) -> Result<Vec<V>, AllocError>
     ensures { IfOk result (λ places. length places.items ≡ 64) }
 {

@@ -5,7 +5,7 @@ use Rattle.proof_rules.specs.Places.{entries_of, places_of}
 use Rattle.proof_rules.specs.contracts.id_map.IdMap.{the_view}
 use Rattle.proof_rules.proofs.PlaceLaws.{look-put, look-put_behind}
 use Rattle.proof_rules.proofs.id_map.IdMap.insert.Goals as goal
-use Rattle.proof_rules.proofs.id_map.IdMap.insert.Goals.{then-is_near+in_ok-reach+in_ok-put_in_place, else-is_near+in_ok-insert+in-Some-1, else-is_near+in_ok-insert+in-None-1}
+use Rattle.proof_rules.proofs.id_map.IdMap.insert.Goals.{then-is_near+in_ok-reach+in_ok-put_in_place, else-is_near+in_ok-put_far}
 
 pub returns-clause-ok : goal.returns-clause-ok
 returns-clause-ok g c =
@@ -19,12 +19,8 @@ returns-clause-ok g c =
           ∙ ap (λ places. map.from_entries (entries_of places ++ far)) w.in_ok-put_in_place.ensures.ok
           ∙ from_entries-insert (entries_of (places_of w.reach.new.near.items) ++ far) _ c.args.id c.args.value (look-put c.args.id c.args.value (places_of w.reach.new.near.items) far w.in_ok-reach.ensures.reached)
           ∙ ap (λ es. map.insert (map.from_entries (es ++ far)) c.args.id c.args.value) w.reach.ensures.same ∙ then_old
-      | else-is_near+in_ok-insert+in-Some-1 w ↦
+      | else-is_near+in_ok-put_far w ↦
           ap (the_view g.row.V) w.self-inside-is
-          ∙ from_entries-insert (entries_of near ++ far) _ c.args.id c.args.value (look-put_behind c.args.id c.args.value near far w.insert.new.self.entries (outside (w.if-is_near.ensures refl)) w.in_ok-insert.ensures.updates.0)
-          ∙ then_old
-      | else-is_near+in_ok-insert+in-None-1 w ↦
-          ap (the_view g.row.V) w.self-inside-is
-          ∙ from_entries-insert (entries_of near ++ far) _ c.args.id c.args.value (look-put_behind c.args.id c.args.value near far w.insert.new.self.entries (outside (w.if-is_near.ensures refl)) w.in_ok-insert.ensures.updates.0)
+          ∙ from_entries-insert (entries_of near ++ far) _ c.args.id c.args.value (look-put_behind c.args.id c.args.value near far w.put_far.new.far.entries (outside (w.if-is_near.ensures refl)) w.in_ok-put_far.ensures.ok)
           ∙ then_old
     ]

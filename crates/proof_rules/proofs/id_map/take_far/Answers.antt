@@ -1,9 +1,0 @@
-use Rattle.std.proofs.Common.{sym}
-use Rattle.proof_rules.proofs.PlaceLaws.{nothing_under, nothing_to_take}
-use Rattle.proof_rules.proofs.id_map.take_far.Goals as goal
-
-pub returns-then-is_empty-clause-taken : goal.returns-then-is_empty-clause-taken
-returns-then-is_empty-clause-taken g c = sym (nothing_under c.args.id c.args.far.now.entries (c.is_empty.ensures.0 c.if-is_empty.true))
-
-pub returns-then-is_empty-clause-gone : goal.returns-then-is_empty-clause-gone
-returns-then-is_empty-clause-gone g c = nothing_to_take c.args.id c.args.far.now.entries (c.is_empty.ensures.0 c.if-is_empty.true)
