@@ -1,12 +1,13 @@
 -- What is left of a text's tokens from a place on.
-use Rattle.std.proofs.Common.{◌≡◌, sym, ap, ◌∙◌, ℕ, zero, suc, ◌+◌, ◌-◌, ◌<◌, ◌≤◌, ℤ, Bool, true, false, ◌==◌, refl, Option, Some, None, List, [], ◌∷◌, map, length, take, drop, get_or, arith, length-take, length-drop}
+use Rattle.std.proofs.Common.{◌≡◌, sym, ap, ◌∙◌, subst, ℕ, zero, suc, ◌+◌, ◌-◌, ◌<◌, ◌≤◌, ℤ, Bool, true, false, ◌==◌, refl, Option, Some, None, List, [], ◌∷◌, map, length, take, drop, get_or, arith, length-take, length-drop}
 use Rattle.std.proofs.lemmas.List.{drop_all, drop_more}
 use Rattle.cx_texts.specs.Tokens.{is_blank, tokens_left_by, tokens_within, NoBlank, EndsRun}
 use Rattle.cx_texts.specs.Words.{Word, letter, other, integer, number_or, letter_or_other, word_of, placed_words}
 use Rattle.cx_texts.specs.declared.line_state.EndLines.TheVariants as end_line
 use Rattle.cx_texts.proofs.FrontLaws.{ends_at_blank}
 use Rattle.cx_texts.proofs.LaterPlaces.{later, left-later}
-use Rattle.cx_texts.proofs.Slices.{part_behind}
+use Rattle.cx_texts.proofs.PlaceLaws.{blank_passed}
+use Rattle.cx_texts.proofs.Slices.{part_at, part_behind}
 use Rattle.cx_texts.proofs.TokenLaws.{token_at, next_part}
 use Rattle.step_text.specs.declared.short_integer.ShortInteger.{ShortInteger}
 use Rattle.step_text.specs.Short.{IsShortFront, TakesNumber}
@@ -76,3 +77,24 @@ short_first from text at s next begins front left =
       word = ap (λ xs. word_of (take s.len xs)) (sym (part_behind text at)) ∙ ap (λ o. number_or (letter_or_other (take s.len ahead)) o) front.reads;
       small = front.small;
     }
+
+-- the space after such an integer is passed
+pub space_passed : (text : List ℕ) (at : ℕ) (s : ShortInteger) → IsShortFront (take (length text - at) (drop at text)) s → get_or (take (length text - at) (drop at text)) s.len 0 ≡ 32
+    → tokens_within (at + s.len) (drop (at + s.len) text) ≡ tokens_within (at + s.len + 1) (drop (at + s.len + 1) text)
+space_passed text at s front space =
+    let less : s.len < length text - at = omega (arith, front.inside, length-take (length text - at) (drop at text)) in
+    let is : get_or text (at + s.len) 0 ≡ 32 = sym (part_at text at (length text) s.len (omega (arith, less)) less) ∙ space in
+    blank_passed end_line.Kept text (at + s.len) (omega (arith, less)) (subst (λ b. is_blank b ≡ true) (sym is) refl) (subst (λ b. (b == 10) ≡ false) (sym is) refl)
+
+no_blank_first : (xs : List ℕ) (n : ℕ) → 0 < n → 0 < length xs → NoBlank (take n xs) → is_blank (get_or xs 0 0) ≡ false
+no_blank_first [] n some long run = absurd (omega (arith, long))
+no_blank_first (x ∷ xs) zero some long run = absurd (omega (arith, some))
+no_blank_first (x ∷ xs) (suc n) some long run = run.0
+
+-- such an integer begins with no blank
+pub begins_short : (text : List ℕ) (at : ℕ) (s : ShortInteger) → IsShortFront (take (length text - at) (drop at text)) s → at < length text → is_blank (get_or text at 0) ≡ false
+begins_short text at s front inside =
+    let first : at + 0 ≡ at = omega arith in
+    let less : 0 < length text - at = omega (arith, inside) in
+    sym (ap is_blank (part_at text at (length text) 0 (omega (arith, less)) less ∙ ap (λ n. get_or text n 0) first))
+    ∙ no_blank_first (take (length text - at) (drop at text)) s.len front.some (omega (arith, front.inside)) front.run

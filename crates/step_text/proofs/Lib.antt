@@ -1,5 +1,6 @@
 pub mod AheadLaws
 pub mod AnswerLaws
+mod ByEight
 pub mod Choices
 pub mod Given
 pub mod Places

@@ -7,6 +7,7 @@ ghost use Rattle.cx_texts.specs.Tokens.{is_blank};
 ghost use Rattle.cx_texts.specs.Words.{is_digit};
 ghost use Rattle.step_text.specs.Short.{IsShortFront, TakesFrom};
 
+use core::dec2flt::read_digits;
 use cx_texts::{begin_behind, has_minus, is_blank_byte, is_digit_byte};
 use std::alloc::AllocError;
 
@@ -84,9 +85,22 @@ pub(crate) fn short_integer(text: &[u8]) -> Option<ShortInteger>
 /// Whether a byte is a space, the most frequent blank.
 #[inline(always)]
 fn is_space_byte(byte: u8) -> bool
-    ensures { result ≡ true → is_blank byte ≡ true }
+    ensures { result ≡ true → byte ≡ 32 }
 {
     byte == b' '
+}
+
+/// The digits at the start, [`FEW`] at most, eight at a time: for numbers of many digits, as ids mostly are.
+#[inline(always)]
+fn digits_by_eight(text: &[u8]) -> Digits
+    requires { FEW ≤ length text.now }
+    ensures few { result.len ≤ FEW }
+    ensures digits { list_all is_digit (take result.len text.now) ≡ true }
+    ensures value { result.value ≡ digits_value 10 (take result.len text.now) }
+    ensures small { result.value < 1000000000000000000 }
+{
+    let (len, value) = read_digits(&text[..FEW], 0, 0);
+    Digits { value, len }
 }
 
 /// The number of a few digits at the start, where a space follows it.
@@ -94,12 +108,13 @@ fn is_space_byte(byte: u8) -> bool
 /// `None` says nothing, as of an integer.
 #[inline(always)]
 pub(crate) fn short_number(text: &[u8]) -> Option<ShortInteger>
-    ensures { IfSome result (IsShortFront text.now) }
+    ensures front { IfSome result (IsShortFront text.now) }
+    ensures space { IfSome result (λ s. slice_index text.now s.len ≡ 32) }
 {
     if text.len() <= FEW + 1 {
         return None;
     }
-    let digits = few_digits(text);
+    let digits = digits_by_eight(text);
     if digits.len == 0 || !is_space_byte(text[digits.len]) {
         return None;
     }

@@ -26,7 +26,8 @@ fn short_pair(text: &[u8], at: usize) -> Option<ShortPair>
     ensures { IfSome result (λ pair. TakesPairs text.now at (pair.ids ∷ []) pair.next) }
 {
     let old = short_number(&text[at..])?;
-    let between = begin_behind(text, at + old.len);
+    // The other id may begin after the space. Where a further blank is there, it is none of a few digits.
+    let between = at + old.len + 1;
     let new = short_number(&text[between..])?;
     if old.value < 1 || new.value < 1 {
         return None;

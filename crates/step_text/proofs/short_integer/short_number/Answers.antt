@@ -1,6 +1,6 @@
 use Rattle.std.proofs.Common.{◌≡◌, ◌∙◌, refl, sym, ap, subst, ℕ, zero, suc, ◌+◌, ◌<◌, ◌≤◌, Bool, true, false, true≢false, ◌&&◌, ◌==◌, eqb-true, List, [], ◌∷◌, pos, nat_abs, length, take, Some, arith}
 use Rattle.std.specs.List.{list_all}
-use Rattle.cx_texts.specs.Tokens.{NoBlank}
+use Rattle.cx_texts.specs.Tokens.{is_blank, NoBlank}
 use Rattle.cx_texts.specs.Words.{is_digit, integer}
 use Rattle.cx_texts.specs.LiteralTokens.{begins_with_minus}
 use Rattle.cx_texts.proofs.FrontLaws.{signed_front}
@@ -17,10 +17,10 @@ no_minus (b ∷ text) (suc len) some digits = at (b == 45) refl
     at false e = sym e
     at true e = absurd (true≢false (sym digits ∙ ap (λ n. is_digit n && list_all is_digit (take len text)) (eqb-true b 45 e)))
 
-pub returns : goal.returns
-returns c =
+pub returns-clause-front : goal.returns-clause-front
+returns-clause-front c =
     let text = c.args.text.now in
-    let digits = c.few_digits-digits in
+    let digits = c.digits_by_eight-digits in
     let len = digits.result.len in
     let some : 0 < len = omega (arith, c.if-digits-eq0.false) in
     let inside : len < length text = omega arith in
@@ -34,7 +34,7 @@ returns c =
       some = some;
       inside = inside;
       run = front.0;
-      blank = c.is_space_byte.ensures c.if-not-is_space_byte.false;
+      blank = subst (λ b. is_blank b ≡ true) (sym (c.is_space_byte.ensures c.if-not-is_space_byte.false)) refl;
       reads = front.1 ∙ ap Some (sym back);
       small = subst (λ z. nat_abs z ≤ limit) (sym back) size;
     }
