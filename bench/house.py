@@ -4,7 +4,8 @@
 usage: bench/house.py [NAME]
 
 With no name, a line for each count, each function that passes a bound and each type name declared twice; with the name of a
-count (`parameters`, `clauses`, `lines`, `files`, `names`, `words`, or one of the comments, such as `behind`), each place of that one alone.
+count (`parameters`, `clauses`, `lines`, `files`, `names`, `words`, `links`, or one of the comments, such as `behind`), each place of that one
+alone.
 What is counted:
 
 parameters  functions with more than five, `self` among them, as clippy counts; trait methods too
@@ -13,6 +14,7 @@ lines       functions whose body, between its braces, has more than forty
 files       files of src/ with more than eight hundred lines
 names       names that more than one struct, enum, trait or type alias declares; associated types are left out
 words       words of README.md, CONTRIBUTING.md, bench/RESULTS.md and docs/*.md, as `wc -w` counts them
+links       links of these pages to a file that is not there, or to a heading that its page does not have
 comments    those of src/ and, after a plus, of specs/: blocks that begin with 'The same' or 'So does', and the words
             behind (mostly *after*), stands (mostly *is*), want of memory (*out of memory*), front (mostly *prefix*);
             what a word means is for a reader to judge. 'In front of' is not counted
@@ -34,6 +36,10 @@ CLAUSE = re.compile(r"(?:requires|ensures)\b\s*\w*\s*(?=\{)")
 TYPE = re.compile(r"^(?:pub(?:\(\w+\))?\s+)?(?:struct|enum|trait|type)\s+(\w+)", re.M)
 COMMENT = {".rt": re.compile(r"^\s*//[/!]?\s?(.*)$"), ".antt": re.compile(r"^\s*--\s?(.*)$")}
 OPENS, CLOSES = "([{", ")]}"
+
+LINK = re.compile(r"\]\((?!\w+:)([^)\s#]*)(?:#([^)\s]*))?\)")
+SHOWN = re.compile(r"^```.*?^```", re.S | re.M)
+HEADING = re.compile(r"^#+ (.*)$", re.M)
 
 PHRASES = {
     "The same": re.compile(r"\AThe same\b"),
@@ -156,6 +162,21 @@ def crates_of(owners):
     return ", ".join(f"{crate} {count} times" if count > 1 else crate for crate, count in Counter(owners).items())
 
 
+def anchors(page):
+    """The names that the headings of a page have in links."""
+    headings = HEADING.findall(SHOWN.sub("", page.read_text(encoding="utf-8")))
+    return {re.sub(r"[^\w\- ]", "", it.lower()).replace(" ", "-") for it in headings}
+
+
+def broken_links(pages):
+    """Each link of a page that leads nowhere."""
+    for page in pages:
+        for name, anchor in LINK.findall(SHOWN.sub("", page.read_text(encoding="utf-8"))):
+            there = page.parent / name if name else page
+            if not there.exists() or anchor and anchor not in anchors(there):
+                yield f"{page.relative_to(TOP)}: {name}{'#' if anchor else ''}{anchor}"
+
+
 def tables():
     """For each count its name, its number or numbers, what it counts, and its places."""
     sources = [it for crate in crates() for it in read(crate / "src", "*.rt")]
@@ -178,6 +199,8 @@ def tables():
     pages = [TOP / it for it in ("README.md", "CONTRIBUTING.md", "bench/RESULTS.md")] + sorted((TOP / "docs").glob("*.md"))
     words = [(len(it.read_text(encoding="utf-8").split()), it.relative_to(TOP)) for it in pages]
     yield "words", sum(it[0] for it in words), "words of the documents", [f"{n:5} {it}" for n, it in words]
+    broken = list(broken_links(pages))
+    yield "links", len(broken), "links of the documents that lead nowhere", broken
     for name, phrase in PHRASES.items():
         found, defined = list(places_of(phrase, sources)), list(places_of(phrase, specs))
         yield name, f"{len(found)} + {len(defined)}", "in comments of src + specs", [f"{it}: {line}" for it, line in found + defined]
