@@ -2,6 +2,7 @@
 #![tactic(auto)]
 
 mod ahead;
+mod anew;
 mod attach;
 mod detach;
 mod event;
