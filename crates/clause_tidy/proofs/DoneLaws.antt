@@ -18,10 +18,10 @@ use Rattle.clause_tidy.specs.declared.outcome.TidyOf.{TidyOf}
 use Rattle.clause_tidy.specs.declared.outcome.TidyOf.TheVariants.{Done, Ended}
 use Rattle.clause_tidy.specs.Agreeing.{IsNamedBy, Agrees}
 use Rattle.clause_tidy.specs.Derived.{IsDerived}
-use Rattle.clause_tidy.specs.Done.{IsCoveredBy, AreNamed, IsTidied, LeavesIdsOr, TidiesTo, TakesUnits}
+use Rattle.clause_tidy.specs.Done.{ArePartsOf, IsCoveredBy, AreNamed, IsTidied, LeavesIdsOr, TidiesTo, TakesUnits}
 use Rattle.clause_tidy.specs.Shortened.{AreDifferent}
 use Rattle.clause_tidy.specs.Taking.{Lists, IsUnitAt, Takes, IsWide}
-use Rattle.clause_tidy.specs.Tidying.{IsClauseOf, IsCovered, LeavesIds, SparesLearned, Tidies, WasOrCame}
+use Rattle.clause_tidy.specs.Tidying.{IsClauseOf, IsCovered, IsPartOf, LeavesIds, SparesLearned, Tidies, WasOrCame}
 use Rattle.tidy_rules.specs.Runs.{NoneDeletes}
 use Rattle.tidy_rules.proofs.OneLaws.{not_two}
 use Rattle.clause_tidy.proofs.LeftLaws.{was_there}
@@ -74,6 +74,14 @@ module _ (formula : Problem) (spare : ℕ) (a m b : ArenaState) (units : List Li
         let r = ref_of p hp in
         let s = ref_of q hq in
         ap (λ x. strengthens x (lits_in b q)) r.2 ∙ ap (strengthens (literals_at m r.0)) s.2 ∙ tidy.none_strengthened (Clause r.0) (Clause s.0) r.1 s.1 (refs_differ p q hp hq ne);
+  }
+
+  are_parts : ArePartsOf a b units ids
+  are_parts = record {
+    each_clause = λ q l. let same = k.left.same q l in subst (λ (o : Option Stored). IsPartOf a (literals_in o) (id_in o)) (sym same) (t.parts q (was_there m b k.left q l));
+    each_unit = λ l n w.
+        let r = k.there l n w in
+        subst (λ x. IsPartOf a (l ∷ []) x) r.1.2 (subst (λ (x : List Literal). IsPartOf a x (id_at m r.0)) r.1.1 (t.parts r.0 r.1.0));
   }
 
   -- ---- what was there is covered
@@ -141,6 +149,7 @@ module _ (formula : Problem) (spare : ℕ) (a m b : ArenaState) (units : List Li
     each = k.each;
     covers = λ r l. covered (literals_at a r) (learned_at a r) (t.covers r l);
     derived = λ p hp. let r = ref_of p hp in subst (IsDerived (IsClauseOf a)) (sym r.2) (t.derived r.0 r.1);
+    parts = are_parts;
     learned = λ q l tr. k.left.same q l ∙ t.learned q (was_there m b k.left q l) (sym (ap learned_in (k.left.same q l)) ∙ tr);
     wide = λ q low. wide q (omega (arith, low, e));
     was = old_or_new;

@@ -16,7 +16,7 @@ use Rattle.clause_tidy.specs.Answers.{IsEnded}
 use Rattle.clause_tidy.specs.Derived.{IsDerived}
 use Rattle.tidy_rules.specs.Runs.{KeepsFree, RunsTidily}
 use Rattle.clause_tidy.specs.Taking.{Lists, Takes, IsWide}
-use Rattle.clause_tidy.specs.Tidying.{IsClauseOf, IsCovered, SparesLearned, WasOrCame}
+use Rattle.clause_tidy.specs.Tidying.{IsClauseOf, IsCovered, IsPartOf, SparesLearned, WasOrCame}
 use Rattle.clause_tidy.specs.Weights.{weight}
 
 -- covered by a clause of the arena, or by a unit
@@ -27,6 +27,11 @@ IsCoveredBy a units clause learned = IsCovered a clause learned ⊎ ((l : Litera
 abbrev pub AreNamed : Table → List Literal → List ℕ → Type 0
 AreNamed table units ids = (l : Literal) (n : ℕ) → Lists units ids l n → IsNamedBy table (l ∷ []) n
 
+-- each clause lies inside one that was there and has its id, and so does each unit
+pub record ArePartsOf (a b : ArenaState) (units : List Literal) (ids : List ℕ) : Type 0 where
+  pub each_clause : (q : ℕ) → IsLive b q → IsPartOf a (literals_at b q) (id_at b q)
+  pub each_unit : (l : Literal) (n : ℕ) → Lists units ids l n → IsPartOf a (l ∷ []) n
+
 -- the id of each clause that was there is free in the table, or that of a clause that is there, or of a unit
 abbrev pub LeavesIdsOr : ArenaState → ArenaState → List Literal → List ℕ → Table → Type 0
 LeavesIdsOr a b units ids table = (r : ℕ) → IsLive a r → (get table (id_at a r) ≡ None) ⊎ ((q : ℕ) × IsLive b q × (id_at b q ≡ id_at a r)) ⊎ ((l : Literal) × Lists units ids l (id_at a r))
@@ -35,12 +40,13 @@ LeavesIdsOr a b units ids table = (r : ℕ) → IsLive a r → (get table (id_at
 abbrev pub AgreesAgain : Problem → ℕ → ArenaState → ArenaState → List Literal → List ℕ → List LogStep → Type 0
 AgreesAgain formula spare a b units ids steps = (length steps + 4 * weight b ≤ 4 * weight a) × ((tables : Tables) → Agrees spare tables.clauses a → (last : Tables) × RunsTidily formula tables steps last × Agrees spare last.clauses b × AreNamed last.clauses units ids × KeepsFree tables.clauses last.clauses × SparesLearned b steps × LeavesIdsOr a b units ids last.clauses)
 
--- The clauses together with the units are tidy. What was there is covered, by what was not learned where it was not learned. Each clause and unit was derived from what was there. What is learned was there as it is. No clause that came has just one literal, or one twice. Where a log agreed with the arena, it does again.
+-- The clauses together with the units are tidy. What was there is covered, by what was not learned where it was not learned. Each clause and unit was derived from what was there. Each lies inside one of those and has its id. What is learned was there as it is. No clause that came has just one literal, or one twice. Where a log agreed with the arena, it does again.
 pub record IsTidied (formula : Problem) (spare : ℕ) (a b : ArenaState) (units : List Literal) (ids : List ℕ) (steps : List LogStep) : Type 0 where
   pub tidied : Tidied b units
   pub each : length ids ≡ length units
   pub covers : (r : ℕ) → IsLive a r → IsCoveredBy b units (literals_at a r) (learned_at a r)
   pub derived : (p : TidyPart) → IsPart b units p → IsDerived (IsClauseOf a) (lits_in b p)
+  pub parts : ArePartsOf a b units ids
   pub learned : (q : ℕ) → IsLive b q → IsTrue (learned_at b q) → clause_at b q ≡ clause_at a q
   pub wide : (q : ℕ) → length a.clauses ≤ q → IsWide b q
   pub was : (q : ℕ) → IsLive b q → WasOrCame formula a b q

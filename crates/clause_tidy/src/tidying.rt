@@ -8,7 +8,7 @@ ghost use Rattle.tidy_rules.specs.Parts.{IsPart, Tidied, lits_in};
 ghost use Rattle.clause_tidy.specs.Agreeing.{IsStepId, AreProper};
 ghost use Rattle.clause_tidy.specs.Answers.{EndsFrom, HasNoTautology, IsRightFrom, IsTold, IsTornAfter, MayTidy, MendsTo, TidiesOn};
 ghost use Rattle.clause_tidy.specs.Derived.{IsDerived};
-ghost use Rattle.clause_tidy.specs.Done.{AgreesAgain, IfDone, IfEnded, IsCoveredBy, TidiesTo, TakesUnits};
+ghost use Rattle.clause_tidy.specs.Done.{AgreesAgain, ArePartsOf, IfDone, IfEnded, IsCoveredBy, TidiesTo, TakesUnits};
 ghost use Rattle.clause_tidy.specs.Pairs.{NoneBears};
 ghost use Rattle.clause_tidy.specs.Taking.{IsWide};
 ghost use Rattle.clause_tidy.specs.Tidying.{IsClauseOf, WasOrCame};
@@ -119,6 +119,7 @@ pub fn tidy<L: Sink<Item = LogEvent>>(
     ensures each { IfDone result (λ units ids. length ids ≡ length units) }
     ensures covers { IfDone result (λ units ids. (r : ℕ) → IsLive arena.old r → IsCoveredBy arena.new units (literals_at arena.old r) (learned_at arena.old r)) }
     ensures derived { IfDone result (λ units ids. (p : TidyPart) → IsPart arena.new units p → IsDerived (IsClauseOf arena.old) (lits_in arena.new p)) }
+    ensures parts { IfDone result (λ units ids. ArePartsOf arena.old arena.new units ids) }
     ensures learned { IfDone result (λ units ids. (q : ℕ) → IsLive arena.new q → IsTrue (learned_at arena.new q) → clause_at arena.new q ≡ clause_at arena.old q) }
     ensures wide { IfDone result (λ units ids. (q : ℕ) → length arena.old.clauses ≤ q → IsWide arena.new q) }
     ensures was { IfDone result (λ units ids. (q : ℕ) → IsLive arena.new q → WasOrCame formula.now arena.old arena.new q) }

@@ -6,7 +6,7 @@ use Rattle.tidy_rules.specs.declared.part.TidyPart.{TidyPart}
 use Rattle.tidy_rules.specs.Parts.{IsPart, Tidied, lits_in}
 use Rattle.clause_tidy.specs.Answers.{EndsFrom}
 use Rattle.clause_tidy.specs.Derived.{IsDerived}
-use Rattle.clause_tidy.specs.Done.{AgreesAgain, IsCoveredBy}
+use Rattle.clause_tidy.specs.Done.{AgreesAgain, ArePartsOf, IsCoveredBy}
 use Rattle.clause_tidy.specs.Taking.{IsWide}
 use Rattle.clause_tidy.specs.Tidying.{IsClauseOf, WasOrCame}
 use Rattle.clause_tidy.proofs.AnswerLaws
@@ -30,6 +30,7 @@ returns g c =
       each = AnswerLaws.when_done g.L.Sink f s a b old new (λ units ids. length ids ≡ length units) (λ units ids steps t. t.each) r told;
       covers = AnswerLaws.when_done g.L.Sink f s a b old new (λ units ids. (q : ℕ) → IsLive a q → IsCoveredBy b units (literals_at a q) (learned_at a q)) (λ units ids steps t. t.covers) r told;
       derived = AnswerLaws.when_done g.L.Sink f s a b old new (λ units ids. (p : TidyPart) → IsPart b units p → IsDerived (IsClauseOf a) (lits_in b p)) (λ units ids steps t. t.derived) r told;
+      parts = AnswerLaws.when_done g.L.Sink f s a b old new (λ units ids. ArePartsOf a b units ids) (λ units ids steps t. t.parts) r told;
       learned = AnswerLaws.when_done g.L.Sink f s a b old new (λ units ids. (q : ℕ) → IsLive b q → IsTrue (learned_at b q) → clause_at b q ≡ clause_at a q) (λ units ids steps t. t.learned) r told;
       wide = AnswerLaws.when_done g.L.Sink f s a b old new (λ units ids. (q : ℕ) → length a.clauses ≤ q → IsWide b q) (λ units ids steps t. t.wide) r told;
       was = AnswerLaws.when_done g.L.Sink f s a b old new (λ units ids. (q : ℕ) → IsLive b q → WasOrCame f a b q) (λ units ids steps t. t.was) r told;
