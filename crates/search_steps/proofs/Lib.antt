@@ -31,5 +31,5 @@ pub mod HintLaws
 pub mod TidyLineLaws
 pub mod SizeLaws
 pub mod TidySteps
-mod TidyIds
-mod TidyCounts
+pub mod TidyIds
+pub mod TidyCounts

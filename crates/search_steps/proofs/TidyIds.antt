@@ -73,7 +73,7 @@ module _ (formula : Problem) where
   tables_are s [] last runs = sym runs
   tables_are s (step ∷ steps) last (is_right, goes, tidy, runs) = tables_are (told s (Step step)) steps last runs
 
-  parities_are : (s : Search) (steps : List LogStep) (last : Tables) → RunsTidily formula s.moment.tables steps last → (steps_told s steps).moment.tables.parities ≡ s.moment.tables.parities
+  pub parities_are : (s : Search) (steps : List LogStep) (last : Tables) → RunsTidily formula s.moment.tables steps last → (steps_told s steps).moment.tables.parities ≡ s.moment.tables.parities
   parities_are s [] last runs = refl
   parities_are s (step ∷ steps) last (is_right, goes, tidy, runs) = parities_are (told s (Step step)) steps last runs ∙ parities_stay s.moment step tidy
 
