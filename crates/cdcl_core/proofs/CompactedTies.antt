@@ -99,11 +99,11 @@ module _ (a b : ArenaState) (moves : List Move) (f : IsRenamed a b moves) where
         late = subst (λ o. IsTrue (learned_in o) → length (clauses_of formula.constraints) < id_in o) same k.late;
       }
 
-  held_moved : (fixed : List Literal) (n : ℕ) (clause : List Literal) → IsHeld a fixed n clause → IsHeld b fixed n clause
-  held_moved fixed n clause (inl (r, live, id)) =
+  held_moved : (tidies : Bool) (fixed : List Literal) (n : ℕ) (clause : List Literal) → IsHeld tidies a fixed n clause → IsHeld tidies b fixed n clause
+  held_moved tidies fixed n clause (inl (r, live, id)) =
       let w = f.kept r live in
       inl (w.0, ap is_some w.2 ∙ live, ap id_in w.2 ∙ id)
-  held_moved fixed n clause (inr more) = inr more
+  held_moved tidies fixed n clause (inr more) = inr more
 
   needs_moved : (fixed : List Literal) (clause : List Literal) → NeedsNoLearned a fixed clause → NeedsNoLearned b fixed clause
   needs_moved fixed clause (inl both) = inl both
@@ -127,10 +127,10 @@ module _ (a b : ArenaState) (moves : List Move) (f : IsRenamed a b moves) where
       let moved = clause_moved a b moves was.0 s f was.1 in
       ap (λ o. is_among ids (id_in o)) moved.1 ∙ all was.0 moved.0 (ap learned_in (sym moved.1) ∙ is)
 
-  clauses_moved : (formula : Problem) (table : Table) (next : ℕ) (fixed : List Literal) → ClauseTies formula table next a fixed → ClauseTies formula table next b fixed
-  clauses_moved formula table next fixed t = record {
+  clauses_moved : (tidies : Bool) (formula : Problem) (table : Table) (next : ℕ) (fixed : List Literal) → ClauseTies tidies formula table next a fixed → ClauseTies tidies formula table next b fixed
+  clauses_moved tidies formula table next fixed t = record {
     stored = stored_moved formula table next t.stored;
-    covered = λ n clause low is. held_moved fixed n clause (t.covered n clause low is);
+    covered = λ n clause low is. held_moved tidies fixed n clause (t.covered n clause low is);
     apart = apart_moved t.apart;
     original = λ clause is. needs_moved fixed clause (t.original clause is);
   }
@@ -186,7 +186,7 @@ module _ (formula : Problem) (c : SearchState) (e : State) (rows : List (List Li
   ties_moved : Ties formula c e rows s → Ties formula d e rows s
   ties_moved t = record {
     log = t.log;
-    clauses = clauses_moved c.arena b moves f formula s.moment.tables.clauses c.next _ t.clauses;
+    clauses = clauses_moved c.arena b moves f c.tidies formula s.moment.tables.clauses c.next _ t.clauses;
     learned = learned_moved c.arena b moves f s.moment.learned t.learned;
     trail = record {
       follows = record { tied = tied_moved moves s.trail c.trail.entries t.trail.follows.tied; sound = sound };

@@ -110,12 +110,12 @@ module _ (formula : Problem) (c : SearchState) (e : State) (lits : List Literal)
           }
     ]
 
-    covered_then : (m : ℕ) (clause : List Literal) → m < c.next + 1 → get after.moment.tables.clauses m ≡ Some clause → IsHeld D.arena (held 0 after.trail) m clause
+    covered_then : (m : ℕ) (clause : List Literal) → m < c.next + 1 → get after.moment.tables.clauses m ≡ Some clause → IsHeld D.tidies D.arena (held 0 after.trail) m clause
     covered_then m clause low live = elim (was formula c e lits back s taught hints m clause low live) [
       | inl is ↦ inl (length c1.arena.clauses, ap is_some clause_new, ap id_in clause_new ∙ sym is.1)
       | inr old ↦ elim (t1.clauses.covered m clause (let less = old.0 in let next = counts.next in omega (arith, less, next)) old.1) [
         | inl (r, r_live, id) ↦ inl (r, ap is_some (clause_kept r r_live) ∙ r_live, ap id_in (clause_kept r r_live) ∙ id)
-        | inr (inl taut) ↦ inr (inl taut)
+        | inr (inl taut) ↦ inr (inl (enters.put.tidies ∙ taut.0, taut.1))
         | inr (inr (one, t)) ↦ inr (inr (one, true_then clause t))
       ]
     ]
@@ -257,7 +257,7 @@ module _ (formula : Problem) (c : SearchState) (e : State) (lits : List Literal)
         ∙ ap (λ k. has_literal (cond (nat_le k 0) (taught.first ∷ held 0 (back_to back s.trail)) (held 0 (back_to back s.trail))) taught.first) at_zero
         ∙ has_at_head taught.first (held 0 (back_to back s.trail))
 
-    unit_covered : (m : ℕ) (clause : List Literal) → m < c.next + 1 → get after.moment.tables.clauses m ≡ Some clause → IsHeld D.arena (held 0 after.trail) m clause
+    unit_covered : (m : ℕ) (clause : List Literal) → m < c.next + 1 → get after.moment.tables.clauses m ≡ Some clause → IsHeld D.tidies D.arena (held 0 after.trail) m clause
     unit_covered m clause low live = elim (was formula c e lits back s taught hints m clause low live) [
       | inl is ↦
           let alone : clause ≡ taught.first ∷ [] = is.0 ∙ single in
@@ -267,7 +267,7 @@ module _ (formula : Problem) (c : SearchState) (e : State) (lits : List Literal)
           ))
       | inr old ↦ elim (t1.clauses.covered m clause (let less = old.0 in let next = counts.next in omega (arith, less, next)) old.1) [
         | inl (r, r_live, id) ↦ inl (r, subst (λ a. IsLive a r) (sym enters.arena) r_live, ap (λ a. id_at a r) enters.arena ∙ id)
-        | inr (inl taut) ↦ inr (inl taut)
+        | inr (inl taut) ↦ inr (inl (enters.put.tidies ∙ taut.0, taut.1))
         | inr (inr (one, t)) ↦ inr (inr (one, true_then clause t))
       ]
     ]

@@ -14,7 +14,7 @@ use Rattle.cx_semantics.specs.Chain.{has_literal, is_inside, same_literals}
 use Rattle.cx_semantics.specs.Fresh.{is_tautology}
 use Rattle.cx_semantics.proofs.Closure.{has_by_inside}
 use Rattle.cx_semantics.proofs.Members.{has_at_head, has_behind, has_split}
-use Rattle.clause_arena.specs.Clauses.{Stored, IsLive, clause_at, literals_in, id_in, learned_in, id_at}
+use Rattle.clause_arena.specs.Clauses.{Stored, IsLive, clause_at, literals_in, id_in, learned_in, id_at, literals_at}
 use Rattle.cx_trail.specs.Sequence.{TrailState}
 use Rattle.conflict_learn.proofs.ChainOfResolutions.{by_cases}
 use Rattle.search_steps.proofs.Sets.{not_both}
@@ -50,7 +50,7 @@ parity_passes cs i d lits less is =
     let both = length-append (clauses_of (take i cs)) [] in
     omega (arith, long, both)
 
-assumption_passes : (cs : List Constraint) (i : ℕ) (d : Constraint) (lits : List Literal) → i < length cs → get_or cs i d ≡ constraint.Assume lits → length (clauses_of (take (i + 1) cs)) ≡ length (clauses_of (take i cs))
+pub assumption_passes : (cs : List Constraint) (i : ℕ) (d : Constraint) (lits : List Literal) → i < length cs → get_or cs i d ≡ constraint.Assume lits → length (clauses_of (take (i + 1) cs)) ≡ length (clauses_of (take i cs))
 unfolding clauses_of
 assumption_passes cs i d lits less is =
     let more = take_more cs i d less ∙ ap (λ c. take i cs ++ c ∷ []) is in
@@ -79,7 +79,7 @@ any_by p (m ∷ ms) l h k = elim (has_split m ms l h) [
   | inr g ↦ or_right (p m) _ (any_by p ms l g k)
 ]
 
-same_tautology : (a b : List Literal) → same_literals a b ≡ true → is_tautology a ≡ true → is_tautology b ≡ true
+pub same_tautology : (a b : List Literal) → same_literals a b ≡ true → is_tautology a ≡ true → is_tautology b ≡ true
 same_tautology a b same h =
     let inside = (and_parts (is_inside a b) (is_inside b a) same).0 in
     let both = some_literal (λ l. has_literal a (negate l)) a h in
@@ -139,6 +139,7 @@ nothing_is_filled formula c e = record {
   not_reduced = e.not_reduced;
   never_tidies = e.never_tidies;
   stored = λ r live. absurd (no_clause r live);
+  plain = λ r live. absurd (no_clause r live);
   apart = λ r q live more same. absurd (no_clause r live);
   units_are = tt;
   covered = λ k low high. absurd (omega (arith, low, high));
@@ -198,6 +199,7 @@ module _ (formula : Problem) (f : Filled) (lits : List Literal) (is : IsNext for
       not_reduced = is.filled.not_reduced;
       never_tidies = is.filled.never_tidies;
       stored = λ r live. let st = is.filled.stored r live in let high = st.high in record { wide = st.wide; low = st.low; high = omega (arith, high); same = st.same; original = st.original };
+      plain = is.filled.plain;
       apart = is.filled.apart;
       units_are = units_are;
       covered = λ k small high. elim (before_or_next k high) [
@@ -296,8 +298,14 @@ module _ (formula : Problem) (f : Filled) (lits : List Literal) (is : IsNext for
     new_taken : IsClauseTaken formula D f.units.items f.empty f.state.next
     new_taken = inl (length f.state.arena.clauses, ap is_some clause_new, ap id_in clause_new)
 
-    pub attached_taken : 2 ≤ length lits → IsFilledUpTo formula f.state.next D f.units.items f.empty
-    attached_taken long = record {
+    plain_then : is_tautology lits ≡ false → (r : ℕ) → IsLive D.arena r → is_tautology (literals_at D.arena r) ≡ false
+    plain_then proper r live = elim (old_or_last r live) [
+      | inl old ↦ ap (λ x. is_tautology (literals_in x)) (clause_kept r old) ∙ is.filled.plain r old
+      | inr new ↦ ap (λ x. is_tautology (literals_in x)) (ap (clause_at D.arena) new ∙ clause_new) ∙ proper
+    ]
+
+    pub attached_taken : 2 ≤ length lits → is_tautology lits ≡ false → IsFilledUpTo formula f.state.next D f.units.items f.empty
+    attached_taken long proper = record {
       trail = a.trail ∙ is.filled.trail;
       watched = record {
         fits = subst (Fits D.watches D.arena) (sym a.trail) a.fits;
@@ -316,6 +324,7 @@ module _ (formula : Problem) (f : Filled) (lits : List Literal) (is : IsNext for
       not_reduced = a.reductions ∙ is.filled.not_reduced;
       never_tidies = a.tidies ∙ is.filled.never_tidies;
       stored = stored_then long;
+      plain = plain_then proper;
       apart = apart_then;
       units_are = is.filled.units_are;
       covered = λ k small high. elim (before_or_next k high) [

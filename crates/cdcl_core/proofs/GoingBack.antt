@@ -96,10 +96,10 @@ module _ (formula : Problem) (k : ℕ) (c d : SearchState) (e f : State) (rows :
 
   -- ---- clauses
   -- level 0 stays, and so do the arena, what is attached, and the next id
-  clauses_then : ClauseTies formula s.moment.tables.clauses d.next d.arena (held 0 (back_to k s.trail))
-  clauses_then = subst (λ n. ClauseTies formula s.moment.tables.clauses n d.arena (held 0 (back_to k s.trail))) (sym g.next)
-      (subst (λ a. ClauseTies formula s.moment.tables.clauses c.next a (held 0 (back_to k s.trail))) (sym g.arena)
-      (subst (λ ls. ClauseTies formula s.moment.tables.clauses c.next c.arena ls) (sym (held_back 0 k s.trail (omega arith))) t.clauses))
+  clauses_then : ClauseTies d.tidies formula s.moment.tables.clauses d.next d.arena (held 0 (back_to k s.trail))
+  clauses_then = subst (λ x. ClauseTies x formula s.moment.tables.clauses d.next d.arena (held 0 (back_to k s.trail))) (sym g.tidies) (subst (λ n. ClauseTies c.tidies formula s.moment.tables.clauses n d.arena (held 0 (back_to k s.trail))) (sym g.next)
+      (subst (λ a. ClauseTies c.tidies formula s.moment.tables.clauses c.next a (held 0 (back_to k s.trail))) (sym g.arena)
+      (subst (λ ls. ClauseTies c.tidies formula s.moment.tables.clauses c.next c.arena ls) (sym (held_back 0 k s.trail (omega arith))) t.clauses)))
 
   -- ---- units
   unit_places : (i : ℕ) → i < length c.units.items → i < length d.trail.entries

@@ -67,7 +67,7 @@ one_less top (x ∷ ns) n f = by_cases (nat_eq n x)
     (λ e. let long = ap length (ap (λ b. cond (not b) (x ∷ without ns n) (without ns n)) e ∙ below_stays x ns n f.1 (let same = eqb-true n x e in omega (arith, same))) in omega (arith, long))
     (λ e. let long = ap length (ap (λ b. cond (not b) (x ∷ without ns n) (without ns n)) e) in let rec = one_less x ns n f.1 in omega (arith, long, rec))
 
-falls_without : (top : ℕ) (ns : List ℕ) (n : ℕ) → IsFallingFrom top ns → IsFallingFrom top (without ns n)
+pub falls_without : (top : ℕ) (ns : List ℕ) (n : ℕ) → IsFallingFrom top ns → IsFallingFrom top (without ns n)
 falls_without top [] n f = tt
 falls_without top (x ∷ ns) n f =
     let first = f.0 in
@@ -81,7 +81,7 @@ counted true k x h = omega (arith, h)
 counted false k x h = omega (arith, h)
 
 -- ---- reasons
-no_reason : (ids : List ℕ) (n : ℕ) (es : List Entry) → RestOnUnits ids es → ((i : ℕ) → i < length ids → get_or ids i 0 ≢ n) → IsNoReason n es
+pub no_reason : (ids : List ℕ) (n : ℕ) (es : List Entry) → RestOnUnits ids es → ((i : ℕ) → i < length ids → get_or ids i 0 ≢ n) → IsNoReason n es
 no_reason ids n [] r not = tt
 no_reason ids n (e ∷ es) ((i, less, is), r) not = (λ w. not i less (let k : by_clause (get_or ids i 0) ≡ by_clause n = sym is ∙ w in cc (k)), no_reason ids n es r not)
 
@@ -206,7 +206,7 @@ module _ (formula : Problem) (c : SearchState) (e : State) (s : Search) (ok : Is
         late = subst (λ o. IsTrue (learned_in o) → length (clauses_of formula.constraints) < id_in o) (sym same) k.late;
       }
 
-  covered_then : (m : ℕ) (clause : List Literal) → m < c.next → get after.moment.tables.clauses m ≡ Some clause → IsHeld b (held 0 s.trail) m clause
+  covered_then : (m : ℕ) (clause : List Literal) → m < c.next → get after.moment.tables.clauses m ≡ Some clause → IsHeld c.tidies b (held 0 s.trail) m clause
   covered_then m clause m_low is =
       let other : m ≢ n = λ same. no_clause clause (sym is ∙ ap (get after.moment.tables.clauses) same ∙ Rattle.cdcl_search.proofs.TableLaws.drop_same s.moment.tables.clauses n) in
       elim (p.clauses.covered m clause m_low (sym (drop_other s.moment.tables.clauses n m other) ∙ is)) [

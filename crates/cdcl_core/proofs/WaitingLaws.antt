@@ -64,10 +64,10 @@ only_one lits l m same has = elim (has_split l [] m (has_by_inside lits (l ∷ [
   | inr none ↦ absurd (true≢false (sym none))
 ]
 
-has_the_one : (lits : List Literal) (l : Literal) → same_literals (l ∷ []) lits ≡ true → has_literal lits l ≡ true
+pub has_the_one : (lits : List Literal) (l : Literal) → same_literals (l ∷ []) lits ≡ true → has_literal lits l ≡ true
 has_the_one lits l same = has_by_inside (l ∷ []) lits l (and_parts (is_inside (l ∷ []) lits) (is_inside lits (l ∷ [])) same).0 (has_at_head l [])
 
-one_forces : (entries : List TrailEntry) (lits : List Literal) (l : Literal) → same_literals (l ∷ []) lits ≡ true → ForcesOn entries lits l
+pub one_forces : (entries : List TrailEntry) (lits : List Literal) (l : Literal) → same_literals (l ∷ []) lits ≡ true → ForcesOn entries lits l
 one_forces entries lits l same = record {
   has_it = has_the_one lits l same;
   others_false = λ m has apart. not_both (same_literal l m) (ap (same_literal l) (only_one lits l m same has) ∙ same_literal-itself l) apart;
@@ -195,6 +195,7 @@ module _ (formula : Problem) (engines : List (List Literal)) (c : SearchState) (
       parities = ties.parities;
       clauses = ties.clauses;
       stored = ties.stored;
+      plain = ties.plain;
       apart = ties.apart;
       covered = λ k low high. elim (ties.covered k low high) [
         | inl done ↦ inl done
@@ -286,9 +287,10 @@ module _ (formula : Problem) (engines : List (List Literal)) (c : SearchState) (
           parities = ties.parities;
           clauses = ties.clauses;
           stored = ties.stored;
+          plain = ties.plain;
           apart = ties.apart;
           covered = λ k low high. elim (ties.covered k low high) [
-            | inl done ↦ inl (held_grows c.arena k search.trail entry (clause_number formula k) done)
+            | inl done ↦ inl (held_grows c.tidies c.arena k search.trail entry (clause_number formula k) done)
             | inr waits ↦ elim (still_waits u more k waits) [
               | inl is ↦ inl (inr (inr (subst (λ j. (¬ HasTwo (clause_number formula j)) × HasTrue (held 0 after.trail) (clause_number formula j)) (sym is) (alone, head_covers))))
               | inr later ↦ inr later
@@ -392,10 +394,11 @@ module _ (formula : Problem) (few : length formula.constraints ≤ 4294967295) (
       parities = b.1.listed;
       clauses = b.1.clauses;
       stored = f.stored;
+      plain = λ _. f.plain;
       apart = f.apart;
       covered = λ k low high. elim (f.covered k low high) [
         | inl stored ↦ inl (inl stored)
-        | inr (inl both) ↦ inl (inr (inl both))
+        | inr (inl both) ↦ inl (inr (inl (f.never_tidies, both)))
         | inr (inr (inl waits)) ↦ inr waits
         | inr (inr (inr none)) ↦ absurd (true≢false (sym none))
       ];
@@ -450,7 +453,7 @@ module _ (formula : Problem) (engines : List (List Literal)) (c : SearchState) (
     (let next = st.3.next in omega (arith, low, next)),
   )
 
-  needs_of : (k : ℕ) → IsHeld c.arena (held 0 st.0.trail) k (clause_number formula k) → NeedsNoLearned c.arena (held 0 st.0.trail) (clause_number formula k)
+  needs_of : (k : ℕ) → IsHeld c.tidies c.arena (held 0 st.0.trail) k (clause_number formula k) → NeedsNoLearned c.arena (held 0 st.0.trail) (clause_number formula k)
   needs_of k (inl (r, live, id)) =
       let s = st.3.stored r live in
       inr (inr (
@@ -460,7 +463,7 @@ module _ (formula : Problem) (engines : List (List Literal)) (c : SearchState) (
         ap (λ j. is_inside (literals_at c.arena r) (clause_number formula j)) (sym id)
             ∙ (and_parts (is_inside (literals_at c.arena r) (clause_number formula (id_at c.arena r))) (is_inside (clause_number formula (id_at c.arena r)) (literals_at c.arena r)) s.same).0,
       ))
-  needs_of k (inr (inl both)) = inl both
+  needs_of k (inr (inl both)) = inl both.1
   needs_of k (inr (inr (one, t))) = inr (inl t)
 
   original_then : (clause : List Literal) → IsClauseOf formula clause → NeedsNoLearned c.arena (held 0 st.0.trail) clause
@@ -472,7 +475,7 @@ module _ (formula : Problem) (engines : List (List Literal)) (c : SearchState) (
         | inr waits ↦ absurd (none_waits (i + 1) waits)
       ])
 
-  clauses_then : ClauseTies formula st.0.moment.tables.clauses c.next c.arena (held 0 st.0.trail)
+  clauses_then : ClauseTies c.tidies formula st.0.moment.tables.clauses c.next c.arena (held 0 st.0.trail)
   clauses_then = record {
     stored = λ r live.
         let s = st.3.stored r live in
@@ -484,7 +487,7 @@ module _ (formula : Problem) (engines : List (List Literal)) (c : SearchState) (
         };
     covered = λ n clause low live.
         let number = is_number n clause live low in
-        subst (IsHeld c.arena (held 0 st.0.trail) n) (same_Some (clause_number formula n) clause (sym (st.3.clauses.numbered n number.0 number.1) ∙ live)) (elim (st.3.covered n number.0 number.1) [
+        subst (IsHeld c.tidies c.arena (held 0 st.0.trail) n) (same_Some (clause_number formula n) clause (sym (st.3.clauses.numbered n number.0 number.1) ∙ live)) (elim (st.3.covered n number.0 number.1) [
           | inl done ↦ done
           | inr waits ↦ absurd (none_waits n waits)
         ]);

@@ -1,5 +1,5 @@
 -- What a search holds before its first unit: its clauses of several literals.
-use Rattle.std.specs.Prelude.{◌≡◌, ◌≢◌, ◌⊎◌, ℕ, ◌+◌, ◌-◌, ◌≤◌, false, List, [], ◌∷◌, ◌++◌, length, get_or, Option, Some, IsSome, IfSome, IsTrue, Contains}
+use Rattle.std.specs.Prelude.{◌≡◌, ◌≢◌, ◌⊎◌, ℕ, ◌+◌, ◌-◌, ◌≤◌, false, List, [], ◌∷◌, ◌++◌, length, get_or, Option, Some, IsSome, IfSome, IsTrue, IsFalse, Contains}
 use Rattle.std.specs.List.{AllByRecursion}
 use Rattle.cx_base.specs.Literals.{Literal}
 use Rattle.cx_base.specs.Problem.{Problem, clauses_of, AreWithin}
@@ -71,6 +71,7 @@ pub record IsFilledUpTo (formula : Problem) (n : ℕ) (c : SearchState) (units :
   pub not_reduced : c.reductions ≡ 0
   pub never_tidies : c.tidies ≡ false
   pub stored : (r : ℕ) → IsLive c.arena r → IsTakenAt formula n c.arena r
+  pub plain : (r : ℕ) → IsLive c.arena r → IsFalse (is_tautology (literals_at c.arena r))
   pub apart : (r q : ℕ) → IsLive c.arena r → IsLive c.arena q → id_at c.arena r ≡ id_at c.arena q → r ≡ q
   pub units_are : AllByRecursion (λ u. IsUnitClause formula u.number u.literal × (1 ≤ u.literal.variable) × (u.literal.variable ≤ formula.variables)) units
   pub covered : (k : ℕ) → 1 ≤ k → k ≤ n → IsClauseTaken formula c units empty k

@@ -1,11 +1,12 @@
 -- What a search holds while some unit clauses of the formula still wait.
-use Rattle.std.specs.Prelude.{◌≡◌, ◌⊎◌, ℕ, ◌+◌, ◌≤◌, Bool, true, false, List, [], length, Option, Contains}
+use Rattle.std.specs.Prelude.{◌≡◌, ◌⊎◌, ℕ, ◌+◌, ◌≤◌, Bool, true, false, List, [], length, Option, Contains, IsFalse}
 use Rattle.std.specs.List.{AllByRecursion}
 use Rattle.cx_base.specs.Literals.{Literal}
 use Rattle.cx_base.specs.Problem.{Problem, clauses_of}
 use Rattle.cx_base.specs.declared.steps.LogEvent.{LogEvent}
 use Rattle.cx_semantics.specs.Ids.{highest_id}
-use Rattle.clause_arena.specs.Clauses.{IsLive, id_at}
+use Rattle.cx_semantics.specs.Fresh.{is_tautology}
+use Rattle.clause_arena.specs.Clauses.{IsLive, id_at, literals_at}
 use Rattle.search_policy.specs.Standing.{AllStand}
 use Rattle.search_steps.specs.Holding.{AreTold}
 use Rattle.search_steps.specs.Ids.{IsRanged, HasFreeSums}
@@ -43,8 +44,9 @@ pub record TiesBut (formula : Problem) (engines : List (List Literal)) (c : Sear
   pub parities : AreListedFromOne s.moment.tables.parities engines
   pub clauses : AreListedFromOne s.moment.tables.clauses (clauses_of formula.constraints)
   pub stored : (r : ℕ) → IsLive c.arena r → IsTakenAt formula (length (clauses_of formula.constraints)) c.arena r
+  pub plain : c.tidies ≡ false → (r : ℕ) → IsLive c.arena r → IsFalse (is_tautology (literals_at c.arena r))
   pub apart : (r q : ℕ) → IsLive c.arena r → IsLive c.arena q → id_at c.arena r ≡ id_at c.arena q → r ≡ q
-  pub covered : (k : ℕ) → 1 ≤ k → k ≤ length (clauses_of formula.constraints) → IsHeld c.arena (held 0 s.trail) k (clause_number formula k) ⊎ IsWaiting waiting k
+  pub covered : (k : ℕ) → 1 ≤ k → k ≤ length (clauses_of formula.constraints) → IsHeld c.tidies c.arena (held 0 s.trail) k (clause_number formula k) ⊎ IsWaiting waiting k
   pub singles : AllByRecursion (IsSingle formula) waiting
   pub units : AreUnits s.moment.tables.clauses c.next c.trail s.trail c.units.items
   pub every : length c.units.items ≡ length c.trail.entries

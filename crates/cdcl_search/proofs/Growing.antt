@@ -1,5 +1,5 @@
 -- What the ties say of a trail with one more literal at its end.
-use Rattle.std.proofs.Common.{◌≡◌, ◌≢◌, inl, inr, refl, sym, ap, ◌∙◌, subst, ℕ, suc, ◌+◌, ◌<◌, ◌≤◌, nat_eq, List, [], ◌∷◌, ◌++◌, length, get_or, take, Contains, arith, eqb-true}
+use Rattle.std.proofs.Common.{◌≡◌, ◌≢◌, inl, inr, refl, sym, ap, ◌∙◌, subst, ℕ, suc, ◌+◌, ◌<◌, ◌≤◌, nat_eq, List, [], ◌∷◌, ◌++◌, length, get_or, take, Contains, arith, eqb-true, Bool}
 use Rattle.std.proofs.lemmas.Bool.{eqb-false}
 use Rattle.std.proofs.lemmas.List.{take-append-le, length_push}
 use Rattle.std.specs.Prelude.{IsTrue}
@@ -30,20 +30,20 @@ abbrev pub put : SearchState → ℕ → Literal → Reason → SearchState
 put c level l why = record c { trail = pushed c.trail level l why }
 
 -- ---- clauses
-pub held_grows : (arena : ArenaState) (n : ℕ) (es : List Entry) (y : Entry) (clause : List Literal) → IsHeld arena (held 0 es) n clause → IsHeld arena (held 0 (y ∷ es)) n clause
-held_grows arena n es y clause (inl stored) = inl stored
-held_grows arena n es y clause (inr (inl both)) = inr (inl both)
-held_grows arena n es y clause (inr (inr (one, t))) = inr (inr (one, record { l = t.l; has_it = t.has_it; is_held = put_held 0 y es t.l t.is_held }))
+pub held_grows : (tidies : Bool) (arena : ArenaState) (n : ℕ) (es : List Entry) (y : Entry) (clause : List Literal) → IsHeld tidies arena (held 0 es) n clause → IsHeld tidies arena (held 0 (y ∷ es)) n clause
+held_grows tidies arena n es y clause (inl stored) = inl stored
+held_grows tidies arena n es y clause (inr (inl both)) = inr (inl both)
+held_grows tidies arena n es y clause (inr (inr (one, t))) = inr (inr (one, record { l = t.l; has_it = t.has_it; is_held = put_held 0 y es t.l t.is_held }))
 
 needs_none_still : (arena : ArenaState) (es : List Entry) (y : Entry) (clause : List Literal) → NeedsNoLearned arena (held 0 es) clause → NeedsNoLearned arena (held 0 (y ∷ es)) clause
 needs_none_still arena es y clause (inl both) = inl both
 needs_none_still arena es y clause (inr (inl t)) = inr (inl (record { l = t.l; has_it = t.has_it; is_held = put_held 0 y es t.l t.is_held }))
 needs_none_still arena es y clause (inr (inr stored)) = inr (inr stored)
 
-pub clauses_grow : (formula : Problem) (table : Table) (next : ℕ) (arena : ArenaState) (es : List Entry) (y : Entry) → ClauseTies formula table next arena (held 0 es) → ClauseTies formula table next arena (held 0 (y ∷ es))
-clauses_grow formula table next arena es y a = record {
+pub clauses_grow : {tidies : Bool} (formula : Problem) (table : Table) (next : ℕ) (arena : ArenaState) (es : List Entry) (y : Entry) → ClauseTies tidies formula table next arena (held 0 es) → ClauseTies tidies formula table next arena (held 0 (y ∷ es))
+clauses_grow {tidies} formula table next arena es y a = record {
   stored = a.stored;
-  covered = λ n clause low live. held_grows arena n es y clause (a.covered n clause low live);
+  covered = λ n clause low live. held_grows tidies arena n es y clause (a.covered n clause low live);
   apart = a.apart;
   original = λ clause is. needs_none_still arena es y clause (a.original clause is);
 }

@@ -120,7 +120,7 @@ none_marked : (events : List LogEvent) → AllByRecursion (λ e. mark_of e ≡ N
 none_marked [] a = refl
 none_marked (e ∷ events) a = ap (λ o. cons_option o (filter_map mark_of events)) a.0 ∙ none_marked events a.1
 
-with_no_mark : (told : Option (List LogEvent)) (events : List LogEvent) → AllByRecursion (λ e. mark_of e ≡ None) events → HasNoMark told → HasNoMark (with_events events told)
+pub with_no_mark : (told : Option (List LogEvent)) (events : List LogEvent) → AllByRecursion (λ e. mark_of e ≡ None) events → HasNoMark told → HasNoMark (with_events events told)
 with_no_mark None events a h = tt
 with_no_mark (Some es) events a h = filter_map-append mark_of es events ∙ ap (λ xs. xs ++ filter_map mark_of events) h ∙ none_marked events a
 
@@ -139,7 +139,7 @@ counts_as (Ok x) before now h = h
 counts_as (Err Memory) before now h = h
 counts_as (Err Write) before now h = h
 
-with_low : (told : Option (List LogEvent)) (events : List LogEvent) → AllByRecursion HasLowId events → HaveLowIds told → HaveLowIds (with_events events told)
+pub with_low : (told : Option (List LogEvent)) (events : List LogEvent) → AllByRecursion HasLowId events → HaveLowIds told → HaveLowIds (with_events events told)
 with_low None events low h = tt
 with_low (Some es) events low h = all_append HasLowId es events h low
 

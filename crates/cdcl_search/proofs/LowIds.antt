@@ -23,7 +23,7 @@ index_is (x ∷ xs) zero d e less = refl
 index_is (x ∷ xs) (suc k) d e less = index_is xs k d e (omega (arith, less))
 
 -- a live clause has an id above 0
-named_is_id : (table : Table) (lits : List Literal) (n : ℕ) → get table 0 ≡ None → n ≤ 2000000000000000000 → IsNamedBy table lits n → IsId n
+pub named_is_id : (table : Table) (lits : List Literal) (n : ℕ) → get table 0 ≡ None → n ≤ 2000000000000000000 → IsNamedBy table lits n → IsId n
 named_is_id table lits zero none low named = absurd (no_clause named.clause (sym named.live ∙ none))
 named_is_id table lits (suc n) none low named = (omega arith, omega (arith, low))
 

@@ -43,7 +43,7 @@ module _ (formula : Problem) (c : SearchState) (e : State) (s : Search) (ok : Is
   clash = no_clash formula e.parities s ok
 
   -- a live clause that is held rests where each attached one is quiet
-  held_rests : Happens c.watches.attached c.arena c.trail event.Quiet → (n : ℕ) (clause : List Literal) → get s.moment.tables.clauses n ≡ Some clause → IsHeld c.arena (held 0 s.trail) n clause → RestsOn (all_held s.trail) clause
+  held_rests : Happens c.watches.attached c.arena c.trail event.Quiet → (n : ℕ) (clause : List Literal) → get s.moment.tables.clauses n ≡ Some clause → IsHeld c.tidies c.arena (held 0 s.trail) n clause → RestsOn (all_held s.trail) clause
   held_rests quiet n clause is (inl (r, live, id)) =
       let named = (t.clauses.stored r live).named in
       watched_rests (literals_at c.arena r) clause (subst (λ xs. same_literals (literals_at c.arena r) xs ≡ true) (same_clause named.clause (sym named.live ∙ ap (get s.moment.tables.clauses) id ∙ is)) named.same)
@@ -51,7 +51,7 @@ module _ (formula : Problem) (c : SearchState) (e : State) (s : Search) (ok : Is
     where
       same_clause : (xs : List Literal) → Some xs ≡ Some clause → xs ≡ clause
       same_clause xs q = cc
-  held_rests quiet n clause is (inr (inl both)) = let p = one_beside clause both in tautology_rests (all_held s.trail) clause p.0 clash p.1 p.2
+  held_rests quiet n clause is (inr (inl both)) = let p = one_beside clause both.1 in tautology_rests (all_held s.trail) clause p.0 clash p.1 p.2
     where
       one_beside : (lits : List Literal) → is_tautology lits ≡ true → (l : Literal) × (has_literal lits l ≡ true) × (has_literal lits (negate l) ≡ true)
       one_beside lits both = some_literal (λ l. has_literal lits (negate l)) lits both

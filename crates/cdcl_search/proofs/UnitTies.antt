@@ -1,5 +1,5 @@
 -- The unit clause of a literal of level 0 is told: the ties of the search after that.
-use Rattle.std.proofs.Common.{◌≡◌, ◌≢◌, ◌≤◌, refl, sym, ap, ◌∙◌, subst, ℕ, suc, ◌+◌, ◌-◌, ◌<◌, ℤ, true, false, ◌&&◌, nat_eq, nat_lt, List, [], ◌∷◌, ◌++◌, length, take, get_or, Option, Some, ◌⊎◌, inl, inr, arith, length-append, append_assoc}
+use Rattle.std.proofs.Common.{◌≡◌, ◌≢◌, ◌≤◌, refl, sym, ap, ◌∙◌, subst, ℕ, suc, ◌+◌, ◌-◌, ◌<◌, ℤ, true, false, ◌&&◌, nat_eq, nat_lt, List, [], ◌∷◌, ◌++◌, length, take, get_or, Option, Some, ◌⊎◌, inl, inr, arith, length-append, append_assoc, Bool}
 use Rattle.std.proofs.lemmas.Bool.{eqb-false, ltb-true, ltb-false}
 use Rattle.std.proofs.lemmas.List.{take_all, take-append-le}
 use Rattle.std.proofs.Math.ListN.{get_or-append}
@@ -168,8 +168,8 @@ falls_lower low top (x ∷ ns) l f = let first = f.0 in (omega (arith, first, l)
 abbrev pub with_unit : SearchState → Vec ℕ → ℕ → SearchState
 with_unit c units next = record c { units = units; next = next }
 
-held_still : (arena : ArenaState) (n : ℕ) (es now : List Entry) (clause : List Literal) → held 0 now ≡ held 0 es → IsHeld arena (held 0 es) n clause → IsHeld arena (held 0 now) n clause
-held_still arena n es now clause same h = subst (λ ls. IsHeld arena ls n clause) (sym same) h
+held_still : (tidies : Bool) (arena : ArenaState) (n : ℕ) (es now : List Entry) (clause : List Literal) → held 0 now ≡ held 0 es → IsHeld tidies arena (held 0 es) n clause → IsHeld tidies arena (held 0 now) n clause
+held_still tidies arena n es now clause same h = subst (λ ls. IsHeld tidies arena ls n clause) (sym same) h
 
 module _ (formula : Problem) (c : SearchState) (e : State) (rows : List (List Literal)) (s : Search) (ok : IsSearchIn c.tidies formula e.parities s) (t : Ties formula c e rows s)
     (l : Literal) (more : length c.units.items < length c.trail.entries) (here : (entry_at c.trail.entries (length c.units.items)).literal ≡ l) where
@@ -258,7 +258,7 @@ module _ (formula : Problem) (c : SearchState) (e : State) (rows : List (List Li
     abbrev d : SearchState
     d = record c { units = units; next = next }
 
-    covered_then : (m : ℕ) (x : List Literal) → m < next → get table m ≡ Some x → IsHeld c.arena (held 0 after.trail) m x
+    covered_then : (m : ℕ) (x : List Literal) → m < next → get table m ≡ Some x → IsHeld c.tidies c.arena (held 0 after.trail) m x
     covered_then m x low is = by_cases (nat_eq m n)
         (λ q.
         let alone = one_of (sym is ∙ ap (get table) (Rattle.std.proofs.Common.eqb-true m n q) ∙ put_here) in
@@ -266,12 +266,12 @@ module _ (formula : Problem) (c : SearchState) (e : State) (rows : List (List Li
           not_two l x (subst (λ ls. same_literals (l ∷ []) ls ≡ true) (sym alone) same_one),
           record { l = l; has_it = ap (λ ls. has_literal ls l) alone ∙ has_at_head l []; is_held = held_now },
         )))
-        (λ q. held_still c.arena m s.trail after.trail x (still 0) (t.clauses.covered m x (let apart = eqb-false m n q in omega (arith, low, next_is, apart)) (sym (put_other s.moment.tables.clauses n m (literal z ∷ []) (eqb-false m n q)) ∙ is)))
+        (λ q. held_still c.tidies c.arena m s.trail after.trail x (still 0) (t.clauses.covered m x (let apart = eqb-false m n q in omega (arith, low, next_is, apart)) (sym (put_other s.moment.tables.clauses n m (literal z ∷ []) (eqb-false m n q)) ∙ is)))
       where
         one_of : Some x ≡ Some (l ∷ []) → x ≡ l ∷ []
         one_of q = cc
 
-    clauses_then : ClauseTies formula table next c.arena (held 0 after.trail)
+    clauses_then : ClauseTies c.tidies formula table next c.arena (held 0 after.trail)
     clauses_then = record {
       stored = λ r is_live. let st = t.clauses.stored r is_live in let low = st.low in record { wide = st.wide; named = named_still _ _ st.named; low = omega (arith, low, next_is); late = st.late };
       covered = covered_then;

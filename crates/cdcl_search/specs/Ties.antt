@@ -77,18 +77,18 @@ pub record IsKept (formula : Problem) (table : Table) (next : ℕ) (arena : Aren
   pub low : id_at arena r < next
   pub late : IsTrue (learned_at arena r) → length (clauses_of formula.constraints) < id_at arena r
 
--- a live clause is in the arena under its id, or it has a literal with its negation, or it has no two different literals and level 0 makes its one true
-abbrev pub IsHeld : ArenaState → List Literal → ℕ → List Literal → Type 0
-IsHeld arena fixed n clause = ((r : ℕ) × IsLive arena r × (id_at arena r ≡ n)) ⊎ IsTrue (is_tautology clause) ⊎ ((¬ HasTwo clause) × HasTrue fixed clause)
+-- a live clause is in the arena under its id, or the search does not tidy and it has a literal with its negation, or it has no two different literals and level 0 makes its one true
+abbrev pub IsHeld : Bool → ArenaState → List Literal → ℕ → List Literal → Type 0
+IsHeld tidies arena fixed n clause = ((r : ℕ) × IsLive arena r × (id_at arena r ≡ n)) ⊎ ((tidies ≡ false) × IsTrue (is_tautology clause)) ⊎ ((¬ HasTwo clause) × HasTrue fixed clause)
 
 -- It is a tautology, level 0 makes a literal of it true, or a clause of the arena that was not learned lies inside it.
 abbrev pub NeedsNoLearned : ArenaState → List Literal → List Literal → Type 0
 NeedsNoLearned arena fixed clause = IsTrue (is_tautology clause) ⊎ HasTrue fixed clause ⊎ ((r : ℕ) × IsLive arena r × IsFalse (learned_at arena r) × IsTrue (is_inside (literals_at arena r) clause))
 
 -- the arena holds the live clauses that stay, each under an id of its own; no clause of the formula needs a learned one; level 0 makes the fixed literals true
-pub record ClauseTies (formula : Problem) (table : Table) (next : ℕ) (arena : ArenaState) (fixed : List Literal) : Type 0 where
+pub record ClauseTies (tidies : Bool) (formula : Problem) (table : Table) (next : ℕ) (arena : ArenaState) (fixed : List Literal) : Type 0 where
   pub stored : (r : ℕ) → IsLive arena r → IsKept formula table next arena r
-  pub covered : (n : ℕ) (clause : List Literal) → n < next → get table n ≡ Some clause → IsHeld arena fixed n clause
+  pub covered : (n : ℕ) (clause : List Literal) → n < next → get table n ≡ Some clause → IsHeld tidies arena fixed n clause
   pub apart : (r q : ℕ) → IsLive arena r → IsLive arena q → id_at arena r ≡ id_at arena q → r ≡ q
   pub original : (clause : List Literal) → IsClauseOf formula clause → NeedsNoLearned arena fixed clause
 
@@ -207,7 +207,7 @@ pub record HasFewIds (formula : Problem) (next conflicts units : ℕ) : Type 0 w
 -- what the code holds, apart from the watches, is what the search of the calculus holds; of rows these clauses were told since the last mark, under the ids from this one on
 pub record TiesFrom (formula : Problem) (c : SearchState) (e : State) (first : ℕ) (rows : List (List Literal)) (s : Search) : Type 0 where
   pub log : LogTies c.tidies formula e.parities c.next first rows s
-  pub clauses : ClauseTies formula s.moment.tables.clauses c.next c.arena (held 0 s.trail)
+  pub clauses : ClauseTies c.tidies formula s.moment.tables.clauses c.next c.arena (held 0 s.trail)
   pub learned : AreLearned c.arena s.moment.learned
   pub trail : TrailTies formula s.trail c.trail c.order c.phases.items
   pub units : AreUnits s.moment.tables.clauses c.next c.trail s.trail c.units.items

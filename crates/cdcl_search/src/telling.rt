@@ -1,4 +1,4 @@
-//! Telling the log. Nothing else of the search tells its sink anything.
+//! Telling the log. Nothing else of the search tells its sink anything, but for a tidying at a restart.
 ghost use Rattle.std.specs.Prelude.{◌≡◌, false, [], ◌∷◌};
 ghost use Rattle.std.specs.List.{AllByRecursion};
 ghost use Rattle.cx_base.specs.declared.steps.LogEvent.TheVariants.{Step, Conflict};
@@ -14,7 +14,7 @@ use cx_base::{LogEvent, LogStep};
 use step_text::{Sink, SinkFault};
 
 /// The search's word for a sink's fault.
-fn fault_of(fault: SinkFault) -> CoreFault
+pub fn fault_of(fault: SinkFault) -> CoreFault
     ensures { result ≡ fault_as fault }
 {
     match fault {

@@ -19,7 +19,7 @@ returns-then-has_both c = λ formula is. tautology_taken formula c.args.filled.n
 
 pub returns-then-lits-gt1 : goal.returns-then-lits-gt1
 returns-then-lits-gt1 c = on_ok _ c.attach.result c.attach.ensures
-    (λ a formula is. attached_taken formula c.args.filled.now c.args.lits.now is c.attach.new.state a c.if-lits-gt1.true)
+    (λ a formula is. attached_taken formula c.args.filled.now c.args.lits.now is c.attach.new.state a c.if-lits-gt1.true (sym c.has_both.ensures ∙ c.if-has_both.false))
 
 pub returns-then-is_empty : goal.returns-then-is_empty
 returns-then-is_empty c = λ formula is. empty_taken formula c.args.filled.now c.args.lits.now is
