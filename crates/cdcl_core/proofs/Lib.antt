@@ -38,3 +38,8 @@ pub mod NarrowAnswers
 pub mod FewAdditions
 pub mod RaisedScores
 pub mod OnSchedule
+pub mod TidiedClauses
+pub mod TidiedTies
+pub mod ForgottenTies
+pub mod TidyLogs
+pub mod WaitingUnits

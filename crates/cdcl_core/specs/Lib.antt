@@ -18,3 +18,4 @@ pub mod Shortening
 pub mod Scheduling
 pub mod Refuting
 pub mod Alike
+pub mod Tidying

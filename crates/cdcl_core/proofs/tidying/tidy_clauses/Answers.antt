@@ -1,0 +1,22 @@
+use Rattle.std.proofs.Common.{[], subst, sym}
+use Rattle.clause_tidy.specs.Agreeing.{AreProper}
+use Rattle.cdcl_core.specs.Tidying.{PutsUnit}
+use Rattle.cdcl_core.proofs.WaitingUnits.{are_proper, none_waits}
+use Rattle.cdcl_core.proofs.tidying.tidy_clauses.Goals as goal
+
+pub tidy_arena-requires-clause-stands : goal.tidy_arena-requires-clause-stands
+tidy_arena-requires-clause-stands g c =
+    c.forget.ensures.unwatched c.args.log.now.formula.now (g.P.ParityEngine.state c.args.engine.now) (g.L.Sink.items c.args.log.now.sink.now) c.requires.stands
+
+pub tidy_arena-requires-clause-proper : goal.tidy_arena-requires-clause-proper
+tidy_arena-requires-clause-proper g c = subst (AreProper c.args.log.now.formula.now) (sym c.forget.ensures.arena)
+    (are_proper c.args.log.now.formula.now c.args.state.now (g.P.ParityEngine.state c.args.engine.now) (g.L.Sink.items c.args.log.now.sink.now) c.requires.stands)
+
+pub returns-then-branch-clause-goes_on : goal.returns-then-branch-clause-goes_on
+returns-then-branch-clause-goes_on g c =
+    let log = c.go_on_tidied.new.log in
+    let state = c.go_on_tidied.new.state in
+    let e = g.P.ParityEngine.state c.args.engine.now in
+    let told = g.L.Sink.items c.go_on_tidied.new.log.sink.now in
+    let after = c.in_ok-go_on_tidied-in-Done.ensures in
+    none_waits log.formula.now state e told after.stays.0 after.watched (subst (PutsUnit log.formula.now state e [] [] told) c.if-branch.true after.puts)
