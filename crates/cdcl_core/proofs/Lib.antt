@@ -43,3 +43,4 @@ pub mod TidiedTies
 pub mod ForgottenTies
 pub mod TidyLogs
 pub mod WaitingUnits
+pub mod TautologyLaws

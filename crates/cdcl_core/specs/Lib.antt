@@ -19,3 +19,4 @@ pub mod Scheduling
 pub mod Refuting
 pub mod Alike
 pub mod Tidying
+pub mod Tautologies

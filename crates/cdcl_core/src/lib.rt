@@ -23,6 +23,7 @@ mod restarting;
 mod schedule;
 mod shortening;
 mod solving;
+mod tautologies;
 mod tidying;
 
 pub use conflict_learn::CoreFault;
