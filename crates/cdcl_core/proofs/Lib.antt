@@ -42,5 +42,6 @@ pub mod TidiedClauses
 pub mod TidiedTies
 pub mod ForgottenTies
 pub mod TidyLogs
+pub mod TidyNow
 pub mod WaitingUnits
 pub mod TautologyLaws

@@ -243,7 +243,7 @@ module _ {L : Type 0} (m : sink.Ghosts L LogEvent) (old new : SearchLog L) (form
         let d : IsTidied formula highest_id a b units ids steps = record { tidied = tidied; each = each; covers = covers; derived = derived; parts = parts; learned = learned; wide = wide; was = was; runs = again } in
         subst (λ f. TidiesSearch f (record c { arena = b }) e (m.items new.sink.now) (Done units ids)) (sym formula_is)
         (subst (λ o. TidiesSearch formula (record c { arena = b }) e o (Done units ids)) (sym told)
-        (stands_beside formula c e s ok t at highest_id agreed steps own b units ids d proper (m.items old.sink.now) stands.2, each, can_be_watched formula c e s ok t at highest_id agreed steps own b units ids d proper))
+        (stands_beside formula c e s ok t at highest_id agreed steps own b units ids d proper (m.items old.sink.now) stands.2, each, can_be_watched formula c e s ok t at highest_id agreed steps own b units ids d proper, tidied))
     ok_tidies (Ended lits) tidied each covers derived parts learned wide was none (steps, told, own, ends) =
         subst (λ f. TidiesSearch f (record c { arena = b }) e (m.items new.sink.now) (Ended lits)) (sym formula_is)
         (subst (λ o. TidiesSearch formula (record c { arena = b }) e o (Ended lits)) (sym told) (refutes steps own lits (ends s.moment.tables agreed)))

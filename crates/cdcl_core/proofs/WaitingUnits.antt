@@ -246,7 +246,7 @@ module _ (formula : Problem) (c : SearchState) (e : State) (l : Literal) (n : �
 
 -- ---- the search that restarts
 pub rests_at : (c : SearchState) → IsAtRestart c → StaysAtRestart c c
-rests_at c at = record { restart = at; watched = λ h. h; conflicts = refl; variables = refl }
+rests_at c at = record { restart = at; arena = refl; watched = λ h. h; conflicts = refl; variables = refl }
 
 pub stays_at : (c : SearchState) (l : Literal) (n : ℕ) (why : Reason) (grown : Vec ℕ) → grown.items ≡ c.units.items ++ n ∷ [] → (trail : TrailState) → trail ≡ pushed c.trail c.trail.level l why → IsAtRestart c → StaysAtRestart c (with_unit c grown trail)
 stays_at c l n why grown one_more trail is at = subst (λ x. StaysAtRestart c (with_unit c grown x)) (sym is) (record {
@@ -256,13 +256,14 @@ stays_at c l n why grown one_more trail is at = subst (λ x. StaysAtRestart c (w
     units = let a = ap length one_more in let b = length-append c.units.items (n ∷ []) in let more = length_push c.trail.entries (record { literal = l; level = c.trail.level; reason = why }) in let every = at.units in omega (arith, a, b, more, every);
     restart = at.restart;
   };
+  arena = refl;
   watched = λ h. watched_grows c c.trail.level l why (omega arith) h;
   conflicts = refl;
   variables = refl;
 })
 
 pub stays_on : (a b c : SearchState) → StaysAtRestart a b → StaysAtRestart b c → StaysAtRestart a c
-stays_on a b c f g = record { restart = g.restart; watched = λ h. g.watched (f.watched h); conflicts = g.conflicts ∙ f.conflicts; variables = g.variables ∙ f.variables }
+stays_on a b c f g = record { restart = g.restart; arena = g.arena ∙ f.arena; watched = λ h. g.watched (f.watched h); conflicts = g.conflicts ∙ f.conflicts; variables = g.variables ∙ f.variables }
 
 -- ---- before the first one
 -- the learned clauses are counted, and all are attached anew

@@ -1,5 +1,5 @@
 -- What a tidying takes of a search, and what it leaves of it.
-use Rattle.std.specs.Prelude.{◌≡◌, ℕ, ◌+◌, ◌<◌, ◌≤◌, Bool, true, false, List, [], ◌∷◌, ◌++◌, length, filter, Option}
+use Rattle.std.specs.Prelude.{◌≡◌, ℕ, ◌+◌, ◌<◌, ◌≤◌, Bool, true, false, List, [], ◌∷◌, ◌++◌, length, filter, Option, Some, None}
 use Rattle.cx_base.specs.Literals.{Literal}
 use Rattle.cx_base.specs.Problem.{Problem}
 use Rattle.cx_base.specs.declared.steps.LogEvent.{LogEvent}
@@ -12,9 +12,11 @@ use Rattle.clause_tidy.specs.declared.outcome.TidyOf.TheVariants.{Done, Ended}
 use Rattle.parity_engine.specs.State.{State}
 use Rattle.watch_lists.specs.Anew.{AreWatchable}
 use Rattle.search_steps.specs.Holding.{AreTold}
-use Rattle.search_steps.specs.Schedule.{IsRestart}
+use Rattle.search_steps.specs.Schedule.{IsRestart, moment_after}
 use Rattle.search_steps.specs.Search.{Search, IsSearchIn}
+use Rattle.search_steps.specs.TidyLines.{AreTidyClauses}
 use Rattle.search_steps.specs.Trail.{held, level_of}
+use Rattle.tidy_rules.specs.Parts.{Tidied}
 use Rattle.cdcl_search.specs.declared.state.SearchState.{SearchState}
 use Rattle.cdcl_search.specs.Ties.{AreLearned, AreUnits, ClauseTies, CountTies, EngineTies, HasFewIds, IsNamedBy, IsWatched, LogTies, Ties, TrailTies, first_row_id}
 use Rattle.cdcl_core.specs.Results.{RefutesIn}
@@ -59,9 +61,10 @@ abbrev pub PutsUnit : Problem → SearchState → State → List Literal → Lis
 PutsUnit formula c e units ids told true = StandsBeside formula c e units ids told
 PutsUnit formula c e units ids told false = RefutesIn c.tidies formula (c.conflicts + 1) told []
 
--- a search that restarts still does; its watches fit where they did, and as many conflicts are counted
+-- a search that restarts still does; its arena is as it was, its watches fit where they did, and as many conflicts are counted
 pub record StaysAtRestart (old new : SearchState) : Type 0 where
   pub restart : IsAtRestart new
+  pub arena : new.arena ≡ old.arena
   pub watched : IsWatched old.watches old.arena old.trail → IsWatched new.watches new.arena new.trail
   pub conflicts : new.conflicts ≡ old.conflicts
   pub variables : new.trail.variables ≡ old.trail.variables
@@ -71,7 +74,12 @@ pub record StaysAtRestart (old new : SearchState) : Type 0 where
 abbrev pub learned_count : ArenaState → ℕ
 learned_count a = length (filter learned_in a.clauses)
 
--- what came of a tidying: the search fits the code once the units are true as well and the learned clauses are counted, and each clause can be watched; or the log has ended
+-- what came of a tidying: the search fits the code once the units are true as well and the learned clauses are counted, each clause can be watched, and the clauses are tidy; or the log has ended
 abbrev pub TidiesSearch : Problem → SearchState → State → Option (List LogEvent) → TidyOf → Type 0
-TidiesSearch formula c e told (Done units ids) = StandsBeside formula (record c { learned = learned_count c.arena }) e units ids told × (length ids ≡ length units) × AreWatchable formula.variables c.arena
+TidiesSearch formula c e told (Done units ids) = StandsBeside formula (record c { learned = learned_count c.arena }) e units ids told × (length ids ≡ length units) × AreWatchable formula.variables c.arena × Tidied c.arena units
 TidiesSearch formula c e told (Ended lits) = RefutesIn c.tidies formula (c.conflicts + 1) told (negations lits)
+
+-- where the log is told, its clauses with two different literals are tidy now
+abbrev pub AreTidyNow : Option (List LogEvent) → Type 0
+AreTidyNow None = Unit {0}
+AreTidyNow (Some events) = AreTidyClauses (moment_after events).tables.clauses

@@ -11,7 +11,7 @@ ghost use Rattle.watch_lists.specs.Anew.{AreWatchable};
 ghost use Rattle.cdcl_search.specs.Logs.{GoesOn, HasNotFailed, Stands, told_in};
 ghost use Rattle.cdcl_search.specs.Ties.{IsWatched, SearchStands};
 ghost use Rattle.cdcl_core.specs.Results.{RefutesIn};
-ghost use Rattle.cdcl_core.specs.Tidying.{IsAtRestart, PutsUnit, StandsBeside, StandsUnwatched, StaysAtRestart, TidiesSearch, learned_count};
+ghost use Rattle.cdcl_core.specs.Tidying.{AreTidyNow, IsAtRestart, PutsUnit, StandsBeside, StandsUnwatched, StaysAtRestart, TidiesSearch, learned_count};
 
 use crate::ending::refute;
 use crate::failing::negated;
@@ -151,7 +151,7 @@ fn go_on_tidied<P: ParityEngine, L: Sink<Item = LogEvent>>(
     requires going { HasNotFailed L.Sink log.old }
     ensures puts { IfOk result (PutsUnit log.new.formula.now state.new (P.state engine.now) [] [] (told_in L.Sink log.new)) }
     ensures watched { OnOk result (IsWatched state.new.watches state.new.arena state.new.trail) }
-    ensures stays { OnOk result (IsAtRestart state.new × (state.new.conflicts ≡ state.old.conflicts) × (state.new.trail.variables ≡ state.old.trail.variables)) }
+    ensures stays { OnOk result (IsAtRestart state.new × (state.new.conflicts ≡ state.old.conflicts) × (state.new.trail.variables ≡ state.old.trail.variables) × (state.new.arena ≡ state.old.arena)) }
     ensures log { GoesOn L.Sink log.old (fault_in result) log.new }
 {
     state.learned = count_learned(&state.arena);
@@ -169,6 +169,7 @@ pub(crate) fn tidy_clauses<P: ParityEngine, L: Sink<Item = LogEvent>>(
     requires restart { IsAtRestart state.old }
     requires going { HasNotFailed L.Sink log.old }
     ensures goes_on { IfOk result (λ o. MatchOption o (Stands P.ParityEngine L.Sink log.new state.new engine.now []) (RefutesIn state.old.tidies log.new.formula.now (state.old.conflicts + 1) (told_in L.Sink log.new))) }
+    ensures tidied { IfOk result (λ o. MatchOption o (AreTidyNow (told_in L.Sink log.new)) (λ _. Unit {0})) }
     ensures stays { IfOk result (λ o. MatchOption o (IsAtRestart state.new × (state.new.conflicts ≡ state.old.conflicts) × (state.new.trail.variables ≡ state.old.trail.variables)) (λ _. Unit {0})) }
     ensures log { GoesOn L.Sink log.old (fault_in result) log.new }
 {

@@ -1,6 +1,9 @@
 use Rattle.std.proofs.Common.{[], subst, sym}
+use Rattle.clause_arena.specs.Clauses.{ArenaState}
 use Rattle.clause_tidy.specs.Agreeing.{AreProper}
+use Rattle.tidy_rules.specs.Parts.{Tidied}
 use Rattle.cdcl_core.specs.Tidying.{PutsUnit}
+use Rattle.cdcl_core.proofs.TidyNow.{tidy_now}
 use Rattle.cdcl_core.proofs.WaitingUnits.{are_proper, none_waits}
 use Rattle.cdcl_core.proofs.tidying.tidy_clauses.Goals as goal
 
@@ -20,3 +23,14 @@ returns-then-branch-clause-goes_on g c =
     let told = g.L.Sink.items c.go_on_tidied.new.log.sink.now in
     let after = c.in_ok-go_on_tidied-in-Done.ensures in
     none_waits log.formula.now state e told after.stays.0 after.watched (subst (PutsUnit log.formula.now state e [] [] told) c.if-branch.true after.puts)
+
+pub returns-then-branch-clause-tidied : goal.returns-then-branch-clause-tidied
+returns-then-branch-clause-tidied g c =
+    let log = c.go_on_tidied.new.log in
+    let state = c.go_on_tidied.new.state in
+    let e = g.P.ParityEngine.state c.args.engine.now in
+    let told = g.L.Sink.items c.go_on_tidied.new.log.sink.now in
+    let after = c.in_ok-go_on_tidied-in-Done.ensures in
+    let done = rw c.in-Done.is at c.in_ok-lits.ensures.tidies in
+    let stands = none_waits log.formula.now state e told after.stays.0 after.watched (subst (PutsUnit log.formula.now state e [] [] told) c.if-branch.true after.puts) in
+    tidy_now log.formula.now state e told c.in-Done.units stands after.stays.0 (subst (λ (a : ArenaState). Tidied a c.in-Done.units) (sym after.stays.3) done.3)
