@@ -1,5 +1,5 @@
 -- Steps as integers, and back.
-use Rattle.std.proofs.Common.{◌≡◌, refl, sym, ap, ◌∙◌, subst, ℕ, ℤ, pos, zero, suc, ◌+◌, ◌-◌, ◌<◌, ◌≤◌, true, cond, List, [], ◌∷◌, ◌++◌, length, take, drop, map, get_or, length-append, Result, Ok, Err, IfOk, arith}
+use Rattle.std.proofs.Common.{◌≡◌, refl, sym, ap, ◌∙◌, subst, ℕ, ℤ, pos, zero, suc, ◌+◌, ◌-◌, ◌<◌, ◌≤◌, true, false, cond, List, [], ◌∷◌, ◌++◌, length, take, drop, map, get_or, length-append, Result, Ok, Err, IfOk, arith}
 use Rattle.std.specs.List.{AllByRecursion}
 use Rattle.std.proofs.lemmas.Bool.{ne_eqb}
 use Rattle.std.proofs.lemmas.List.{take_at, drop_at, take-take, drop-take}
@@ -9,7 +9,7 @@ use Rattle.proof_trim.specs.declared.head.StepKind.{StepKind}
 use Rattle.proof_trim.specs.declared.head.StepKind.TheVariants as kind
 use Rattle.proof_trim.specs.Heads.{deletes, head_of, kind_in, literals_in}
 use Rattle.proof_trim.specs.Integers.{part, signed, unsigned}
-use Rattle.proof_trim.specs.Stored.{listed, packed, step_by, unpacked, IsPacked, AreStored, steps_at, start_at, FitsIn}
+use Rattle.proof_trim.specs.Stored.{first_of, listed, packed, step_by, unpacked, IsPacked, AreStored, steps_at, start_at, FitsIn}
 use Rattle.proof_trim.proofs.HeadLaws.{kind_in-head_of, literals_in-head_of}
 use Rattle.proof_trim.proofs.PartLaws.{part_stays, part_last, part_begins, length-part, unsigned-signed}
 
@@ -63,14 +63,15 @@ packed_head (step.ParityOfClauses n lits hints) = listed_head kind.ParityOfClaus
 packed_again : (most : ℕ) (zs : List ℤ) → IsPacked most zs → packed (unpacked zs) ≡ zs
 packed_again most zs p = ap (λ x. packed (unpacked x)) p.is ∙ ap packed (unpacked-packed p.step) ∙ sym p.is
 
--- ids play no part in a step that deletes nothing
-same_ids : (k : StepKind) (n : ℕ) (xs ys : List ℤ) (ids others : List ℕ) → (deletes k ≡ true → ids ≡ others) → step_by k n xs ys ids ≡ step_by k n xs ys others
-same_ids kind.Clause n xs ys ids others h = refl
-same_ids kind.DeleteClauses n xs ys ids others h = ap (step.DeleteClauses n) (h refl)
-same_ids kind.Parity n xs ys ids others h = refl
-same_ids kind.DeleteParities n xs ys ids others h = ap step.DeleteParities (h refl)
-same_ids kind.ClauseOfParity n xs ys ids others h = refl
-same_ids kind.ParityOfClauses n xs ys ids others h = refl
+-- ids play no part in a step that deletes nothing, and the two lists none in a deletion
+same_parts : (k : StepKind) (n : ℕ) (xs ys more others : List ℤ) (ids names : List ℕ) → (deletes k ≡ false → (xs ≡ more) × (ys ≡ others)) → (deletes k ≡ true → ids ≡ names)
+    → step_by k n xs ys ids ≡ step_by k n more others names
+same_parts kind.Clause n xs ys more others ids names h g = λ i. step.Clause n ((h refl).0 i) ((h refl).1 i)
+same_parts kind.DeleteClauses n xs ys more others ids names h g = ap (step.DeleteClauses n) (g refl)
+same_parts kind.Parity n xs ys more others ids names h g = λ i. step.Parity n ((h refl).0 i) ((h refl).1 i)
+same_parts kind.DeleteParities n xs ys more others ids names h g = ap step.DeleteParities (g refl)
+same_parts kind.ClauseOfParity n xs ys more others ids names h g = λ i. step.ClauseOfParity n ((h refl).0 i) (first_of ((h refl).1 i))
+same_parts kind.ParityOfClauses n xs ys more others ids names h g = λ i. step.ParityOfClauses n ((h refl).0 i) ((h refl).1 i)
 
 same_head : (x s : ProofStep) (xs rest : List ProofStep) → x ∷ xs ≡ s ∷ rest → x ≡ s
 same_head x s xs rest e = cc
@@ -97,16 +98,16 @@ module _ (zs : List ℤ) (s e : ℕ) (low : s ≤ e) (high : e ≤ length zs) wh
   -- the step of its head and of the places over which its lists were copied
   pub opened_as : (k : StepKind) (n middle : ℕ) (integers : List ℤ) (ids : List ℕ) → s + 2 ≤ e → middle ≤ e - (s + 2)
       → k ≡ kind_in (unsigned (get_or zs s (pos 0))) → n ≡ unsigned (get_or zs (s + 1) (pos 0)) → middle ≡ literals_in (unsigned (get_or zs s (pos 0)))
-      → take (e - (s + 2)) integers ≡ part zs (s + 2) e → (deletes k ≡ true → take (e - (s + 2)) ids ≡ map unsigned (part zs (s + 2) e))
+      → (deletes k ≡ false → take (e - (s + 2)) integers ≡ part zs (s + 2) e) → (deletes k ≡ true → take (e - (s + 2)) ids ≡ map unsigned (part zs (s + 2) e))
       → step_by k n (take middle integers) (part integers middle (e - (s + 2))) (take (e - (s + 2)) ids) ≡ unpacked (part zs s e)
   opened_as k n middle integers ids head inside is_k is_n is_m copied copied_ids =
       let rest = part zs (s + 2) e in
       let end = e - (s + 2) in
       let all : middle + (end - middle) ≡ end = omega arith in
-      let front : take middle integers ≡ take middle rest = sym (take-take middle end integers inside) ∙ ap (take middle) copied in
-      let back : part integers middle end ≡ drop middle rest = sym (drop-take middle (end - middle) integers) ∙ ap (λ j. drop middle (take j integers)) all ∙ ap (drop middle) copied in
+      let front = λ (h : deletes k ≡ false). sym (take-take middle end integers inside) ∙ ap (take middle) (copied h) in
+      let back = λ (h : deletes k ≡ false). sym (drop-take middle (end - middle) integers) ∙ ap (λ j. drop middle (take j integers)) all ∙ ap (drop middle) (copied h) in
       let whole : part zs s e ≡ get_or zs s (pos 0) ∷ get_or zs (s + 1) (pos 0) ∷ rest = begins (omega (arith, length-part zs s e low high)) in
-      (λ i. step_by k n (front i) (back i) (take end ids)) ∙ same_ids k n (take middle rest) (drop middle rest) (take end ids) (map unsigned rest) copied_ids
+      same_parts k n (take middle integers) (part integers middle end) (take middle rest) (drop middle rest) (take end ids) (map unsigned rest) (λ h. (front h, back h)) copied_ids
       ∙ (λ i. step_by (is_k i) (is_n i) (take (is_m i) rest) (drop (is_m i) rest) (map unsigned rest)) ∙ ap unpacked (sym whole)
 
 -- ---- a step after the others

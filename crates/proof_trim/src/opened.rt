@@ -1,5 +1,5 @@
 //! A step that is taken out of the packed ones.
-ghost use Rattle.std.specs.Prelude.{◌≡◌, ◌≤◌, ◌-◌, true, length, map, take, IfOk};
+ghost use Rattle.std.specs.Prelude.{◌≡◌, ◌≤◌, ◌-◌, true, false, length, map, take, IfOk};
 ghost use Rattle.proof_text.specs.Borrowed.{step_of};
 ghost use Rattle.proof_trim.specs.Heads.{deletes};
 ghost use Rattle.proof_trim.specs.Integers.{part, unsigned};
@@ -33,16 +33,22 @@ impl Model for OpenedStep {
     ghost invariant = { λ a. (a.head.literals ≤ a.len) × (a.len ≤ length a.integers.items) × (length a.ids.items ≡ length a.integers.items) };
 }
 
-/// Copies ids to the first places of a list, where a step of this kind has any.
-fn copy_ids(kind: StepKind, packed: &Integers, start: usize, end: usize, into: &mut Vec<u64>)
-    requires low { start ≤ end }
-    requires high { end ≤ length packed.now }
-    requires room { end - start ≤ length into.old.items }
-    ensures copied { deletes kind ≡ true → take (end - start) into.new.items ≡ map unsigned (part packed.now start end) }
-    ensures room { length into.new.items ≡ length into.old.items }
+/// Copies what a step's lists have to the first places: of a deletion the ids, of any other step the integers.
+#[inline(always)]
+fn copy_lists(step: PackedStep, packed: &Integers, integers: &mut Vec<i64>, ids: &mut Vec<u64>)
+    requires low { step.start ≤ step.end }
+    requires high { step.end ≤ length packed.now }
+    requires integers_room { step.end - step.start ≤ length integers.old.items }
+    requires ids_room { step.end - step.start ≤ length ids.old.items }
+    ensures integers { deletes step.head.kind ≡ false → take (step.end - step.start) integers.new.items ≡ part packed.now step.start step.end }
+    ensures ids { deletes step.head.kind ≡ true → take (step.end - step.start) ids.new.items ≡ map unsigned (part packed.now step.start step.end) }
+    ensures integers_room { length integers.new.items ≡ length integers.old.items }
+    ensures ids_room { length ids.new.items ≡ length ids.old.items }
 {
-    if deletes(kind) {
-        packed.copy_ids(start, end, into);
+    if deletes(step.head.kind) {
+        packed.copy_ids(step.start, step.end, ids);
+    } else {
+        packed.copy(step.start, step.end, integers);
     }
 }
 
@@ -85,8 +91,7 @@ impl OpenedStep {
         ensures room { self.new.room ≡ self.old.room }
     {
         let step = PackedStep::at(packed, start, end);
-        packed.copy(step.start, end, &mut self.integers);
-        copy_ids(step.head.kind, packed, step.start, end, &mut self.ids);
+        copy_lists(step, packed, &mut self.integers, &mut self.ids);
         self.head = step.head;
         self.id = step.id;
         self.len = end - step.start;
