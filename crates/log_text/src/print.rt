@@ -24,6 +24,9 @@ fn put_plain<D: Desk>(
 ) -> Result<(), Failed>
     ensures { PutsAll port (before.now ++ printed_line (flat_map spelled (id name ∷ integers literals.now ∷ []))) (D.outside desk.old) result (D.outside desk.new) }
 {
+    if literals.is_empty() {
+        return put_id(desk, port, before, name, b" 0\n");
+    }
     let head = LineHead {
         before,
         id: name,
