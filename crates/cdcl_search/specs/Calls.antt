@@ -1,5 +1,5 @@
 -- What calls take of a search, and what they leave of it.
-use Rattle.std.specs.Prelude.{◌≡◌, ◌≢◌, List, [], length, Option, Result, OnOk}
+use Rattle.std.specs.Prelude.{◌≡◌, ◌≢◌, ◌≤◌, List, [], length, Option, Result, OnOk}
 use Rattle.search_policy.specs.Assuming.{KeepsAssumptions}
 use Rattle.search_policy.specs.declared.assumptions.Assumptions.{Assumptions}
 use Rattle.cx_base.specs.Literals.{Literal}
@@ -39,6 +39,12 @@ pub record IsReady {P L : Type 0} (p : engine.Ghosts P) (m : sink.Ghosts L LogEv
   pub stands : Stands p m log c e []
   pub unbroken : (p.state e).mood ≢ Broken
   pub going : HasNotFailed m log
+
+-- the search fits its log, where of rows these clauses were told since the last mark; one more can be told, and the sink of the log has not failed
+pub record CanTellRow {P L : Type 0} (p : engine.Ghosts P) (m : sink.Ghosts L LogEvent) (log : SearchLog L) (c : SearchState) (e : P) (rows : List (List Literal)) : Type 0 where
+  pub stands : Stands p m log c e rows
+  pub going : HasNotFailed m log
+  pub room : length rows ≤ log.formula.now.variables
 
 -- Up to an answer the search fits again, with these clauses of rows; the log goes on.
 pub record StandsOn {P L T : Type 0} (p : engine.Ghosts P) (m : sink.Ghosts L LogEvent) (old new : SearchLog L) (now : SearchState) (e : P) (rows : List (List Literal)) (result : Result T CoreFault) : Type 0 where

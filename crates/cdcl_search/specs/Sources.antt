@@ -7,7 +7,7 @@ use Rattle.cx_trail.specs.Sequence.{TrailState, entry_at}
 use Rattle.cx_trail.specs.declared.entry.Reason.{Reason}
 use Rattle.cx_trail.specs.declared.entry.Reason.TheVariants.{Row}
 use Rattle.conflict_learn.specs.Final.{StandsBelow}
-use Rattle.conflict_learn.specs.Learning.{HasReason}
+use Rattle.conflict_learn.specs.Learning.{HasReason, IsAntecedent}
 use Rattle.std.specs.List.{All}
 use Rattle.clause_arena.specs.Clauses.{IsLive, literals_at, id_at}
 use Rattle.cdcl_search.specs.declared.state.SearchState.{SearchState}
@@ -31,6 +31,18 @@ pub record HasIds (c : SearchState) : Type 0 where
 pub record IsHinted (clause : List Literal) (n : ℕ) (h : Hinted) : Type 0 where
   pub lits : h.lits ≡ clause
   pub is : h.id ≡ n
+  pub id : IsId h.id
+
+-- the clause of the next row that is told: it implied the literal
+pub record IsNextRow (c : SearchState) (rows : List (List Literal)) (l : Literal) (h : Hinted) : Type 0 where
+  pub implied : IsAntecedent c.trail l h.lits
+  pub next : h.id ≡ first_row_id c.next + length rows
+  pub id : IsId h.id
+
+-- a clause that a source holds and that implied the literal, under an id that a step may have
+pub record IsHeldFor (c : SearchState) (rows : List (List Literal)) (l : Literal) (h : Hinted) : Type 0 where
+  pub sourced : IsSourcedBy c rows h.lits h.id
+  pub implied : IsAntecedent c.trail l h.lits
   pub id : IsId h.id
 
 -- where a row implied the literal, it contradicts no assumed one

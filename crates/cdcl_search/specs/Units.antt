@@ -7,6 +7,7 @@ use Rattle.cx_trail.specs.Sequence.{StandsAt}
 use Rattle.conflict_learn.specs.Learning.{IsAntecedent}
 use Rattle.cdcl_search.specs.declared.state.SearchState.{SearchState}
 use Rattle.cdcl_search.specs.Sources.{IsSourcedBy}
+use Rattle.cdcl_search.specs.Tells.{IsId}
 
 -- only the unit clauses and the next id differ
 pub record HasOther (old new : SearchState) : Type 0 where
@@ -21,11 +22,12 @@ pub record HasOther (old new : SearchState) : Type 0 where
   pub reductions : new.reductions ≡ old.reductions
   pub tidies : new.tidies ≡ old.tidies
 
--- the literal comes after those that have unit clauses, and this clause of a source implied it, which has this id
+-- the literal comes after those that have unit clauses, and this clause of a source implied it, which has this id of a step
 pub record IsNextUnit (c : SearchState) (rows : List (List Literal)) (l : Literal) (clause : List Literal) (n : ℕ) : Type 0 where
   pub next : StandsAt c.trail.entries l (length c.units.items)
   pub sourced : IsSourcedBy c rows clause n
   pub implied : IsAntecedent c.trail l clause
+  pub id : IsId n
 
 -- a unit clause of level 0 makes the literal false
 abbrev pub IsFalseByUnit : SearchState → Literal → Type 0

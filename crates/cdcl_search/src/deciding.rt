@@ -7,9 +7,8 @@ ghost use Rattle.cx_trail.specs.declared.entry.Reason.TheVariants.{Decision};
 ghost use Rattle.cx_trail.specs.Sequence.{IsFull, IsOpenIn, pushed};
 ghost use Rattle.search_policy.specs.Assuming.{KeepsAssumptions, AreTrue, IsFirstOpen};
 ghost use Rattle.search_policy.specs.Scores.{NoneIsOpen};
-ghost use Rattle.search_policy.specs.Standing.{AllStand};
 ghost use Rattle.cdcl_search.specs.Calls.{MayDecide, StaysUnbroken};
-ghost use Rattle.cdcl_search.specs.Deciding.{IsNextDecision, DecidesOn};
+ghost use Rattle.cdcl_search.specs.Deciding.{CanPick, DecidesOn, IsNextDecision, IsReordered};
 ghost use Rattle.cdcl_search.specs.Ties.{SearchStands};
 ghost use Rattle.cdcl_search.specs.Finds.{PropagationFinds};
 ghost use Rattle.cdcl_search.specs.declared.propagation.Found.TheVariants as found;
@@ -21,11 +20,9 @@ use search_policy::Assumptions;
 
 /// The literal of the variable of the greatest score, with the value that it had last.
 fn picked(state: &mut SearchState) -> Option<Lit>
-    requires stand { AllStand state.old.order state.old.trail }
-    requires phased { length state.old.phases.items ≡ state.old.trail.variables }
+    requires { CanPick state.old }
     ensures literal { MatchOption result (NoneIsOpen state.old.trail.variables state.old.trail.entries) (IsNextDecision state.old.trail) }
-    ensures stand { AllStand state.new.order state.old.trail }
-    ensures same { state.new ≡ record state.old { order = state.new.order } }
+    ensures reordered { IsReordered state.old state.new }
 {
     let Some(variable) = state.order.pick_from_heap(&state.trail) else {
         return None;
@@ -41,8 +38,7 @@ fn next_decision(
     state: &mut SearchState,
     assumptions: &mut Assumptions,
 ) -> Option<Lit>
-    requires stand { AllStand state.old.order state.old.trail }
-    requires phased { length state.old.phases.items ≡ state.old.trail.variables }
+    requires can { CanPick state.old }
     requires keeps { KeepsAssumptions formula.now.constraints assumptions.old state.old.trail }
     requires checked { assumptions.old.checked ≡ length state.old.trail.entries }
     ensures literal { MatchOption result (NoneIsOpen state.old.trail.variables state.old.trail.entries) (IsNextDecision state.old.trail) }
@@ -50,8 +46,7 @@ fn next_decision(
     ensures keeps { MatchOption result (KeepsAssumptions formula.now.constraints assumptions.new state.old.trail)
         (λ l. KeepsAssumptions formula.now.constraints assumptions.new (pushed state.old.trail (state.old.trail.level + 1) l Decision)) }
     ensures checked { assumptions.new.checked ≡ assumptions.old.checked }
-    ensures stand { AllStand state.new.order state.old.trail }
-    ensures same { state.new ≡ record state.old { order = state.new.order } }
+    ensures reordered { IsReordered state.old state.new }
 {
     // `len` tells the proof that the trail is sound.
     let _sound = state.trail.len();

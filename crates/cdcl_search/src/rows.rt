@@ -3,22 +3,21 @@ ghost use Rattle.std.specs.Prelude.{◌≡◌, ◌≢◌, ℕ, ◌≤◌, [], �
 ghost use Rattle.std.specs.List.{AllByRecursion};
 ghost use Rattle.cx_base.specs.Assumptions.{is_ending};
 ghost use Rattle.cx_base.specs.Integers.{integers_of};
-ghost use Rattle.cx_base.specs.declared.steps.LogEvent.TheVariants.{Step};
 ghost use Rattle.cx_base.specs.declared.steps.LogStep.TheVariants.{ClauseOfParity};
 ghost use Rattle.search_steps.specs.LogSteps.{row_events};
 ghost use Rattle.parity_engine.specs.Written.{AreRising};
-ghost use Rattle.cdcl_search.specs.Calls.{StandsOn};
+ghost use Rattle.cdcl_search.specs.Calls.{StandsOn, Tells};
 ghost use Rattle.cdcl_search.specs.Explaining.{Explains};
-ghost use Rattle.cdcl_search.specs.Logs.{HasNotFailed, Stands};
-ghost use Rattle.cdcl_search.specs.Rows.{AreFew, AreNextIds, IsPrepared, sum_and_clause_events};
-ghost use Rattle.cdcl_search.specs.Tells.{AreStepsOf, IsId};
+ghost use Rattle.cdcl_search.specs.Logs.{HasNotFailed, IsRightBehind, Stands};
+ghost use Rattle.cdcl_search.specs.Rows.{AreFew, AreNextIds, IsPrepared, steps_in, sum_and_clause_events};
+ghost use Rattle.cdcl_search.specs.Tells.{as_events, AreStepsOf, IsId, IsStep, IsTellable};
 ghost use Rattle.cdcl_search.specs.Ties.{first_row_id};
 
 use crate::integers::integers;
 use crate::logs::SearchLog;
 use crate::state::SearchState;
 use crate::steps::{clause_of_sum, deletion_of_sum, sum};
-use crate::telling::tell_steps;
+use crate::telling::{tell_step, tell_steps};
 use conflict_learn::CoreFault;
 use cx_base::{Formula, IdList, Lit, LitList, LogEvent, LogStep};
 use parity_engine::ParityEngine;
@@ -55,7 +54,7 @@ pub fn next_ids(formula: &Formula, next: u64, rows: &[LitList]) -> RowIds
     }
 }
 
-/// The steps of a row of more sources than one, or of none: its sum and its clause.
+/// The first steps of a row that is summed: its sum and its clause.
 fn sum_and_clause(
     alloc: Global,
     ids: RowIds,
@@ -81,14 +80,12 @@ fn clause_of_source(
     id: u64,
     clause: &LitList,
     source: u64,
-) -> Result<Vec<LogStep>, AllocError>
+) -> Result<LogStep, AllocError>
     requires proper { IsId id × IsId source }
-    ensures { IfOk result (λ s. AreStepsOf (Step (ClauseOfParity id (integers_of clause.now) source) ∷ []) s.items) }
+    ensures { IfOk result (IsStep (ClauseOfParity id (integers_of clause.now) source)) }
 {
     let clause = integers(alloc, clause.as_slice())?;
-    let mut steps = Vec::with_capacity(alloc, 1)?;
-    steps.push_reserved(clause_of_sum(id, clause, source));
-    Ok(steps)
+    Ok(clause_of_sum(id, clause, source))
 }
 
 /// The one source of a row, where it has just one.
@@ -102,6 +99,15 @@ fn only_source(sources: &[u64]) -> Option<u64>
     }
 }
 
+/// The steps of a row.
+#[derive(Drop)]
+enum RowSteps {
+    /// Its clause, from its one source. No list is made for this one step.
+    Alone(LogStep),
+    /// Its sum, its clause, and the sum's deletion.
+    Summed(Vec<LogStep>),
+}
+
 /// The steps of a row: its clause, from its one source; or its sum, its clause, and the sum's deletion.
 fn row_steps(
     alloc: Global,
@@ -109,18 +115,37 @@ fn row_steps(
     parity: &LitList,
     sources: IdList,
     clause: &LitList,
-) -> Result<Vec<LogStep>, AllocError>
+) -> Result<RowSteps, AllocError>
     requires proper { IsId ids.sum × IsId ids.clause }
     requires sources { AllByRecursion IsId sources }
-    ensures { IfOk result (λ s. AreStepsOf (row_events ids.sum (integers_of parity.now) sources ids.clause (integers_of clause.now)) s.items) }
+    ensures { IfOk result (λ s. AreStepsOf (row_events ids.sum (integers_of parity.now) sources ids.clause (integers_of clause.now)) (steps_in s)) }
 {
     match only_source(sources.as_slice()) {
-        Some(source) => clause_of_source(alloc, ids.clause, clause, source),
+        Some(source) => {
+            let step = clause_of_source(alloc, ids.clause, clause, source)?;
+            Ok(RowSteps::Alone(step))
+        }
         None => {
             let mut steps = sum_and_clause(alloc, ids, parity, sources, clause)?;
             steps.push(deletion_of_sum(alloc, ids.sum))?;
-            Ok(steps)
+            Ok(RowSteps::Summed(steps))
         }
+    }
+}
+
+/// Tells the steps of a row, which leave the log right.
+fn tell_row<L: Sink<Item = LogEvent>>(
+    log: &mut SearchLog<L>,
+    steps: RowSteps,
+) -> Result<(), CoreFault>
+    requires texts { AllByRecursion IsTellable (steps_in steps) }
+    requires going { HasNotFailed L.Sink log.old }
+    requires right { IsRightBehind L.Sink log.old (as_events (steps_in steps)) }
+    ensures { Tells L.Sink log.old (as_events (steps_in steps)) result log.new }
+{
+    match steps {
+        RowSteps::Alone(step) => tell_step(log, step),
+        RowSteps::Summed(steps) => tell_steps(log, steps),
     }
 }
 
@@ -131,10 +156,20 @@ pub fn copy_of(alloc: Global, lits: &[Lit]) -> Result<LitList, AllocError>
     Ok(LitList::from_vec(lits.to_vec(alloc)?))
 }
 
+/// A copy of these literals in the memory of a list that is not needed any more.
+fn copy_over(list: LitList, lits: &[Lit]) -> Result<LitList, AllocError>
+    ensures { IfOk result (λ copy. copy ≡ lits.now) }
+{
+    let mut copy = list.into_vec();
+    copy.clear();
+    copy.extend_from_slice(lits)?;
+    Ok(LitList::from_vec(copy))
+}
+
 /// What the telling of a row needs. It is made before anything is told.
 #[derive(Drop)]
 struct Prepared {
-    steps: Vec<LogStep>,
+    steps: RowSteps,
     clause: LitList,
     copy: LitList,
 }
@@ -158,8 +193,8 @@ fn prepare(
         sources,
         clause,
     } = reason;
-    let copy = copy_of(alloc, clause.as_slice())?;
     let steps = row_steps(alloc, ids, &parity, sources, &clause)?;
+    let copy = copy_over(parity, clause.as_slice())?;
     Ok(Prepared {
         steps,
         clause,
@@ -188,7 +223,7 @@ pub fn tell_reason<P: ParityEngine, L: Sink<Item = LogEvent>>(
     ensures stands_on { StandsOn P.ParityEngine L.Sink log.old log.new state.now engine.now (rows.old.items ++ reason.clause ∷ []) result }
 {
     let prepared = prepare(log.alloc, log.formula, state.next, rows, reason)?;
-    tell_steps(log, prepared.steps)?;
+    tell_row(log, prepared.steps)?;
     rows.push(prepared.copy)?;
     Ok(prepared.clause)
 }

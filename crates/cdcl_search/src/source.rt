@@ -6,12 +6,11 @@ ghost use Rattle.cx_trail.specs.Sequence.{entry_at};
 ghost use Rattle.clause_arena.specs.Clauses.{IsLive, id_at, literals_at};
 ghost use Rattle.conflict_learn.specs.Learning.{HasReason, IsAntecedent};
 ghost use Rattle.parity_engine.specs.State.{State};
-ghost use Rattle.cdcl_search.specs.Calls.{StandsOn};
+ghost use Rattle.cdcl_search.specs.Calls.{CanTellRow, StandsOn};
 ghost use Rattle.cdcl_search.specs.Explaining.{IsReasonOf};
-ghost use Rattle.cdcl_search.specs.Sources.{IsSourcedBy, HasIds, IsHinted, IsApartByRow, RowsAreApart};
-ghost use Rattle.cdcl_search.specs.Tells.{IsId};
-ghost use Rattle.cdcl_search.specs.Ties.{SearchStands, HaveReasons, first_row_id};
-ghost use Rattle.cdcl_search.specs.Logs.{GoesOn, HasNotFailed, Stands};
+ghost use Rattle.cdcl_search.specs.Sources.{HasIds, IsApartByRow, IsHeldFor, IsHinted, IsNextRow, IsSourcedBy, RowsAreApart};
+ghost use Rattle.cdcl_search.specs.Ties.{HaveReasons, SearchStands};
+ghost use Rattle.cdcl_search.specs.Logs.{GoesOn, HasNotFailed};
 ghost use Rattle.cdcl_search.specs.Loans.{HasSameLoans, loans_rest, loans_then};
 ghost use Rattle.cdcl_search.specs.GoingOn.{log_rests, log_stops, log_then};
 
@@ -90,24 +89,18 @@ fn hinted_row<P: ParityEngine, L: Sink<Item = LogEvent>>(
     literal: Lit,
     rows: &mut Vec<LitList>,
 ) -> Result<Hinted, CoreFault>
-    requires stands { Stands P.ParityEngine L.Sink log.old state.now engine.now rows.old.items }
-    requires going { HasNotFailed L.Sink log.old }
+    requires ready { CanTellRow P.ParityEngine L.Sink log.old state.now engine.now rows.old.items }
     requires reason { IsReasonOf (P.state engine.now) state.now.trail.entries literal row }
-    requires room { length rows.old.items ≤ log.old.formula.now.variables }
     requires apart { IsFalse (assumes log.old.formula.now.constraints (negate literal)) }
-    ensures implied { IfOk result (λ h. IsAntecedent state.now.trail literal h.lits) }
-    ensures id { IfOk result (λ h. IsId h.id) }
-    ensures next { IfOk result (λ h. h.id ≡ first_row_id state.now.next + length rows.old.items) }
+    ensures clause { IfOk result (IsNextRow state.now rows.old.items literal) }
     ensures same { OnErr result (rows.new.items ≡ rows.old.items) }
     ensures rows { IfOk result (λ h. rows.new.items ≡ rows.old.items ++ h.lits ∷ []) }
     ensures stands_on { StandsOn P.ParityEngine L.Sink log.old log.new state.now engine.now rows.new.items result }
 {
     let reason = reason_clause(log.alloc, engine, row, Some(literal), &state.trail)?;
     let id = next_ids(log.formula, state.next, rows).clause;
-    match tell_reason(log, state, engine, reason, rows) {
-        Ok(lits) => Ok(Hinted { lits, id }),
-        Err(fault) => Err(fault),
-    }
+    let lits = tell_reason(log, state, engine, reason, rows)?;
+    Ok(Hinted { lits, id })
 }
 
 /// The clause that implied a literal of the trail. A row's is told, where the literal contradicts no assumed one.
@@ -119,14 +112,10 @@ pub(crate) fn clause_of_reason<P: ParityEngine, L: Sink<Item = LogEvent>>(
     literal: Lit,
     rows: &mut Vec<LitList>,
 ) -> Result<Hinted, CoreFault>
-    requires stands { Stands P.ParityEngine L.Sink log.old state.now engine.now rows.old.items }
-    requires going { HasNotFailed L.Sink log.old }
+    requires ready { CanTellRow P.ParityEngine L.Sink log.old state.now engine.now rows.old.items }
     requires reason { HasReason state.now.trail literal reason }
-    requires room { length rows.old.items ≤ log.old.formula.now.variables }
     requires apart { IsApartByRow log.old.formula.now.constraints reason literal }
-    ensures sourced { IfOk result (λ h. IsSourcedBy state.now rows.new.items h.lits h.id) }
-    ensures implied { IfOk result (λ h. IsAntecedent state.now.trail literal h.lits) }
-    ensures id { IfOk result (λ h. IsId h.id) }
+    ensures clause { IfOk result (IsHeldFor state.now rows.new.items literal) }
     ensures grows { (clause : List Literal) (n : ℕ) → IsSourcedBy state.now rows.old.items clause n → IsSourcedBy state.now rows.new.items clause n }
     ensures one { OnOk result (length rows.new.items ≤ length rows.old.items + 1) }
     ensures stands_on { StandsOn P.ParityEngine L.Sink log.old log.new state.now engine.now rows.new.items result }

@@ -6,7 +6,6 @@ ghost use Rattle.cx_trail.specs.Sequence.{entry_at};
 ghost use Rattle.search_policy.specs.Assuming.{KeepsAssumptions};
 ghost use Rattle.cdcl_search.specs.Calls.{HasRowsToDelete, StandsOn};
 ghost use Rattle.cdcl_search.specs.Logs.{HasNotFailed, Stands};
-ghost use Rattle.cdcl_search.specs.Tells.{IsId};
 ghost use Rattle.cdcl_search.specs.Searching.{HasUnits};
 ghost use Rattle.cdcl_search.specs.Units.{HasOther, IsNextUnit};
 
@@ -34,7 +33,6 @@ fn tell_unit<P: ParityEngine, L: Sink<Item = LogEvent>>(
     requires going { HasNotFailed L.Sink log.old }
     requires level { state.old.trail.level ≡ 0 }
     requires next { IsNextUnit state.old rows.now literal implying.now.lits implying.now.id }
-    requires id { IsId implying.now.id }
     requires apart { IsFalse (assumes log.old.formula.now.constraints (negate literal)) }
     ensures to_delete { HasRowsToDelete P.ParityEngine L.Sink log.old log.new state.new engine.now rows.now result }
     ensures units { OnOk result (length state.new.units.items ≡ length state.old.units.items + 1) }

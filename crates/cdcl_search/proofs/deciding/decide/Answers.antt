@@ -24,12 +24,12 @@ returns-clause-stays g c =
     let old = c.args.state.now in
     let now = c.next_decision.new.state in
     let l = c.in-Some.literal in
-    let same = c.next_decision.ensures.same in
+    let same = c.next_decision.ensures.reordered.same in
     let opens : c.decide.new.self ≡ pushed old.trail (old.trail.level + 1) l Decision = c.decide.ensures.pushed ∙ ap (λ (k : SearchState). pushed k.trail (k.trail.level + 1) l Decision) same in
     let stays = λ (told : Option (List LogEvent)) (stands : SearchStands c.args.formula.now old (g.P.ParityEngine.state c.args.engine.now) [] told).
     subst (λ (k : SearchState). SearchStands c.args.formula.now (record k { trail = c.decide.new.self }) (g.P.ParityEngine.state c.push_level.new.self) [] told) (sym same)
     (decided_stands c.args.formula.now old (g.P.ParityEngine.state c.args.engine.now) told c.requires.quiet (all_have_units c.args.formula.now old (g.P.ParityEngine.state c.args.engine.now) told stands c.args.assumptions.now c.requires.checked c.requires.units)
-    now.order c.next_decision.ensures.stand l c.in-Some.ensures.literal.no_value c.decide.new.self opens c.decide.ensures.sound (g.P.ParityEngine.state c.push_level.new.self) c.push_level.ensures stands) in
+    now.order c.next_decision.ensures.reordered.stand l c.in-Some.ensures.literal.no_value c.decide.new.self opens c.decide.ensures.sound (g.P.ParityEngine.state c.push_level.new.self) c.push_level.ensures stands) in
     record { stands = stays; unbroken = λ broken. cc (c.requires.quiet.3, sym (ap (λ (s : State). s.mood) c.push_level.ensures) ∙ broken); tidies = ap (λ (k : SearchState). k.tidies) same }
 
 pub returns-clause-settled : goal.returns-clause-settled

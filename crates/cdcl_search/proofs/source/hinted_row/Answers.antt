@@ -1,4 +1,4 @@
-use Rattle.std.proofs.Common.{refl, sym, ap, ◌∙◌, subst, ◌++◌, ◌∷◌, []}
+use Rattle.std.proofs.Common.{refl, rules, sym, ap, ◌∙◌, subst, ◌++◌, ◌∷◌, []}
 use Rattle.std.proofs.lemmas.Result.{err_from_is_err_and}
 use Rattle.cdcl_search.specs.GoingOn.{log_stops}
 use Rattle.conflict_learn.specs.Learning.{IsAntecedent}
@@ -25,23 +25,29 @@ tell_reason-requires-clause-goes_on g c = not_ending c.args.log.now.formula.now.
     (has_it c.args.state.now.trail (g.P.ParityEngine.state c.args.engine.now) c.args.literal c.args.row c.requires.reason c.in_ok-reason.reason
     c.in_ok-reason.ensures.parity c.in_ok-reason.ensures.numbers c.in_ok-reason.ensures.sum c.in_ok-reason.ensures.clause) c.requires.apart
 
-pub returns-in-Ok-clause-implied : goal.returns-in-Ok-clause-implied
-returns-in-Ok-clause-implied g c = subst (IsAntecedent c.args.state.now.trail c.args.literal) (sym c.in-Ok.ensures.clause)
-    (is_antecedent c.args.state.now.trail (g.P.ParityEngine.state c.args.engine.now) c.args.literal c.args.row c.requires.reason c.in_ok-reason.reason
-    c.in_ok-reason.ensures.parity c.in_ok-reason.ensures.numbers c.in_ok-reason.ensures.sum c.in_ok-reason.ensures.clause c.requires.stands.3.trail.follows.sound)
+pub returns-clause-clause : goal.returns-clause-clause
+returns-clause-clause g c = record {
+  implied = subst (IsAntecedent c.args.state.now.trail c.args.literal) (sym c.in_ok-lits.ensures.clause)
+      (is_antecedent c.args.state.now.trail (g.P.ParityEngine.state c.args.engine.now) c.args.literal c.args.row c.requires.reason c.in_ok-reason.reason
+      c.in_ok-reason.ensures.parity c.in_ok-reason.ensures.numbers c.in_ok-reason.ensures.sum c.in_ok-reason.ensures.clause c.requires.ready.stands.3.trail.follows.sound);
+  next = search rules;
+  id = c.next_ids-id.ensures.proper.1;
+}
 
-pub returns-in-Ok-clause-stands_on : goal.returns-in-Ok-clause-stands_on
-returns-in-Ok-clause-stands_on g c =
-    let stands = subst (λ rows. SearchStands c.tell_reason.new.log.formula.now c.args.state.now (g.P.ParityEngine.state c.args.engine.now) rows (g.L.Sink.items c.tell_reason.new.log.sink.now)) (sym c.in-Ok.ensures.rows) c.in-Ok.ensures.stands_on.stands in
-    record { stands = stands; log = c.in-Ok.ensures.stands_on.log }
+pub returns-clause-rows : goal.returns-clause-rows
+returns-clause-rows g c = c.in_ok-lits.ensures.rows ∙ ap (λ x. c.args.rows.now.items ++ x ∷ []) (sym c.in_ok-lits.ensures.clause)
 
-pub returns-in-Ok-clause-rows : goal.returns-in-Ok-clause-rows
-returns-in-Ok-clause-rows g c = c.in-Ok.ensures.rows ∙ ap (λ x. c.args.rows.now.items ++ x ∷ []) (sym c.in-Ok.ensures.clause)
+pub returns-clause-stands_on : goal.returns-clause-stands_on
+returns-clause-stands_on g c =
+    let stands = subst (λ rows. SearchStands c.tell_reason.new.log.formula.now c.args.state.now (g.P.ParityEngine.state c.args.engine.now) rows (g.L.Sink.items c.tell_reason.new.log.sink.now)) (sym c.in_ok-lits.ensures.rows) c.in_ok-lits.ensures.stands_on.stands in
+    record { stands = stands; log = c.in_ok-lits.ensures.stands_on.log }
 
-pub returns-in-Err : goal.returns-in-Err
-returns-in-Err g c = record { implied = tt; id = tt; next = tt; same = c.in-Err.ensures.same; rows = tt; stands_on = record { stands = tt; log = c.in-Err.ensures.stands_on.log } }
+pub returns-in_err-lits : goal.returns-in_err-lits
+returns-in_err-lits g c =
+    let fault = err_from_is_err_and c.from_residual-in_err-lits.result c.from_residual-in_err-lits.ensures.1 in
+    rw (fault.1, fault.2) (record { clause = tt; same = c.in_err-lits.ensures.same; rows = tt; stands_on = record { stands = tt; log = c.in_err-lits.ensures.stands_on.log } })
 
 pub returns-in_err-reason : goal.returns-in_err-reason
 returns-in_err-reason g c =
     let fault = err_from_is_err_and c.from_residual.result c.from_residual.ensures.1 in
-    rw (fault.1, fault.2) (record { implied = tt; id = tt; next = tt; same = refl; rows = tt; stands_on = record { stands = tt; log = log_stops g.L.Sink g.met.L.Sink.keeps_itself c.args.log.now } })
+    rw (fault.1, fault.2) (record { clause = tt; same = refl; rows = tt; stands_on = record { stands = tt; log = log_stops g.L.Sink g.met.L.Sink.keeps_itself c.args.log.now } })

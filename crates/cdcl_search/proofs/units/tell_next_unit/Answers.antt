@@ -11,12 +11,12 @@ use Rattle.cdcl_search.specs.Sources.{IsSourcedBy}
 use Rattle.cdcl_search.specs.GoingOn.{log_then}
 use Rattle.cdcl_search.proofs.units.tell_next_unit.Goals as goal
 
-pub clause_of_reason-requires-clause-stands : goal.clause_of_reason-requires-clause-stands
-clause_of_reason-requires-clause-stands g c =
-    subst (λ rows. SearchStands c.args.log.now.formula.now c.args.state.now (g.P.ParityEngine.state c.args.engine.now) rows (g.L.Sink.items c.args.log.now.sink.now)) (sym c.new-rows.ensures.items) c.requires.stands
-
-pub clause_of_reason-requires-clause-room : goal.clause_of_reason-requires-clause-room
-clause_of_reason-requires-clause-room g c = let none = ap length c.new-rows.ensures.items in omega (arith, none)
+pub clause_of_reason-requires-clause-ready : goal.clause_of_reason-requires-clause-ready
+clause_of_reason-requires-clause-ready g c = record {
+  stands = subst (λ rows. SearchStands c.args.log.now.formula.now c.args.state.now (g.P.ParityEngine.state c.args.engine.now) rows (g.L.Sink.items c.args.log.now.sink.now)) (sym c.new-rows.ensures.items) c.requires.stands;
+  going = c.requires.going;
+  room = let none = ap length c.new-rows.ensures.items in omega (arith, none);
+}
 
 here : (entries : List Entry) (units len : ℕ) (entry : Entry) (constraints : List Constraint) → units ≡ len → entry ≡ entry_at entries len → assumes constraints (negate (entry_at entries units).literal) ≡ false → assumes constraints (negate entry.literal) ≡ false
 here entries units len entry constraints same is apart = ap (λ (x : Entry). assumes constraints (negate x.literal)) (is ∙ ap (entry_at entries) (sym same)) ∙ apart
@@ -45,8 +45,9 @@ tell_unit-requires-clause-next g c =
     let at : length c.args.state.now.units.items ≡ c.len.result = omega (arith, long, same) in
     record {
       next = (c.requires.more, ap (λ x. x.literal) (ap (entry_at c.args.state.now.trail.entries) at ∙ sym c.entry-entry.ensures.is));
-      sourced = subst (λ rows. IsSourcedBy c.args.state.now rows c.in_ok-implying.implying.lits c.in_ok-implying.implying.id) (sym c.deref.ensures.value) c.in_ok-implying.ensures.sourced;
-      implied = c.in_ok-implying.ensures.implied;
+      sourced = subst (λ rows. IsSourcedBy c.args.state.now rows c.in_ok-implying.implying.lits c.in_ok-implying.implying.id) (sym c.deref.ensures.value) c.in_ok-implying.ensures.clause.sourced;
+      implied = c.in_ok-implying.ensures.clause.implied;
+      id = c.in_ok-implying.ensures.clause.id;
     }
 
 pub tell_unit-requires-clause-going : goal.tell_unit-requires-clause-going

@@ -7,8 +7,8 @@ use Rattle.cdcl_search.proofs.source.SourceAntecedents.clause_of.Goals as goal
 pub clause_of_reason-requires-clause-apart : goal.clause_of_reason-requires-clause-apart
 clause_of_reason-requires-clause-apart g c = c.requires.ready.1 c.args.literal c.args.reason c.requires.below c.requires.stands
 
-pub clause_of_reason-requires-clause-going : goal.clause_of_reason-requires-clause-going
-clause_of_reason-requires-clause-going g c = c.requires.ready.2
+pub clause_of_reason-requires-clause-ready : goal.clause_of_reason-requires-clause-ready
+clause_of_reason-requires-clause-ready g c = record { stands = c.requires.ready.0; going = c.requires.ready.2; room = let room = c.requires.room in omega (arith, room) }
 
 pub returns-in_err-hinted : goal.returns-in_err-hinted
 returns-in_err-hinted g c =
@@ -23,8 +23,8 @@ returns g c =
     record {
       trail = refl;
       held = λ clause n h. e.grows clause n h;
-      clause = e.sourced;
-      implied = e.implied;
+      clause = e.clause.sourced;
+      implied = e.clause.implied;
       ready = (e.stands_on.stands, subst (λ (f : Problem). RowsAreApart f.constraints c.args.self.now.state.now.trail c.args.self.now.below) (sym e.stands_on.log.formula) c.requires.ready.1, e.stands_on.log.failed ∙ c.requires.ready.2);
       reach = refl;
       room = omega (arith, e.one, ap (λ f. f.variables) e.stands_on.log.formula);
