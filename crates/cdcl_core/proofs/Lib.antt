@@ -15,6 +15,7 @@ pub mod LateSteps
 pub mod BesideHints
 pub mod LateLaws
 pub mod BesideLaws
+pub mod RefutedLaws
 pub mod KnownLaws
 pub mod ConflictLaws
 pub mod Answering
@@ -38,6 +39,7 @@ pub mod NarrowAnswers
 pub mod FewAdditions
 pub mod RaisedScores
 pub mod OnSchedule
+pub mod RunLaws
 pub mod TidiedClauses
 pub mod TidiedTies
 pub mod ForgottenTies

@@ -10,6 +10,8 @@ use Rattle.search_steps.specs.Ids.{HasFreeSums}
 use Rattle.search_steps.specs.Laws.{HaveTheirs}
 use Rattle.search_steps.specs.Search.{Search, IsSearchIn, IsTidy}
 use Rattle.search_steps.specs.Size.{additions}
+use Rattle.xor_recover.specs.Finds.{IsJudgedRight}
+use Rattle.xor_recover.specs.declared.found.FoundParity.{FoundParity}
 use Rattle.cdcl_core.specs.Originals.{AreListedFromOne}
 
 -- The formula's clauses and these parities are under their numbers, nothing else is told, and no literal is on the trail.
@@ -37,3 +39,8 @@ pub record AreEngines (formula : Problem) (parities : List (List Literal)) : Typ
   pub within : AllByRecursion (AreWithin formula.variables) parities
   pub few : length parities ≤ length formula.constraints
   pub theirs : HaveTheirs formula parities
+
+-- the recovered parity is over the formula's variables, and is judged right from its clauses
+pub record IsRightFind (formula : Problem) (find : FoundParity) : Type 0 where
+  pub within : AreWithin formula.variables find.parity
+  pub judged : IsJudgedRight formula find

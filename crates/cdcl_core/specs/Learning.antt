@@ -13,13 +13,16 @@ use Rattle.conflict_learn.specs.Levels.{levels_at, second, Teaches}
 use Rattle.conflict_learn.specs.Touching.{AreTouched}
 use Rattle.conflict_learn.specs.declared.learning.Learned.{Learned}
 use Rattle.parity_engine.specs.State.{State}
+use Rattle.search_policy.specs.Assuming.{AreApart}
 use Rattle.search_steps.specs.Hints.{AreHintsFor}
+use Rattle.search_steps.specs.Recovering.{SettledWithRecovered}
 use Rattle.search_steps.specs.Search.{Search, IsSearchIn, IsLearnedOf}
 use Rattle.search_steps.specs.LogSteps.{after_round}
 use Rattle.search_steps.specs.Holding.{AreTold}
 use Rattle.cdcl_search.specs.declared.state.SearchState.{SearchState}
 use Rattle.cdcl_search.specs.Sources.{IsSourcedBy}
 use Rattle.cdcl_search.specs.Ties.{SearchStands, Ties, IsWatched}
+use Rattle.cdcl_core.specs.Failing.{IsFree}
 
 -- The literals are the negations of those at falling places of the trail. The back level is that of the second one, 0 where there is none.
 pub record ArePlaced (trail : TrailState) (lits : List Literal) (back : ℕ) : Type 0 where
@@ -59,6 +62,14 @@ pub record IsLesson (c : SearchState) (rows : List (List Literal)) (conflict : L
   pub teaches : Teaches c.trail conflict (IsSourcedBy c rows) learned.resolved.items learned.lits learned.back_level learned.lbd
   pub stand : (l : Literal) → IsTrue (has_literal (literals_of learned.resolved.items) l) → IsTrueIn c.trail.entries l
   pub touched : AreTouched c.trail (literals_of learned.resolved.items) learned.lits learned.touched.items
+
+-- the search is above level 0, no literal on its trail that a row implied contradicts an assumed one, and none of the current level is assumed; the conflict can be counted, and propagation alone does not settle the formula
+pub record MayLearn (formula : Problem) (c : SearchState) : Type 0 where
+  pub above : 0 < c.trail.level
+  pub apart : AreApart formula.constraints c.trail (length c.trail.entries)
+  pub free : IsFree formula.constraints c.trail
+  pub few : c.conflicts < 10 ^ 18
+  pub unsettled : ¬ SettledWithRecovered formula
 
 -- where the sink was told what this clause was learned from, the search fits that
 abbrev pub StandsBehind : Problem → SearchState → State → Learned → SearchState → State → Type 0

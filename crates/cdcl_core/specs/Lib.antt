@@ -18,5 +18,6 @@ pub mod Shortening
 pub mod Scheduling
 pub mod Refuting
 pub mod Alike
+pub mod Analysing
 pub mod Tidying
 pub mod Tautologies

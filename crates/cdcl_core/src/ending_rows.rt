@@ -21,135 +21,124 @@ pub(crate) struct EndingRow {
     pub reason: ReasonOf,
 }
 
-/// The row that implied this literal, at this place, where its clause would end the log.
-fn ending_of_row<P: ParityEngine>(
-    alloc: Global,
-    formula: &Formula,
-    state: &SearchState,
-    engine: &P,
-    row: Row,
-    literal: Lit,
-    place: usize,
-) -> Result<Option<EndingRow>, AllocError>
-    requires sound { IsTrail state.now.trail }
-    requires reasons { HaveReasons state.now (P.state engine.now) }
-    requires implied { IsImpliedAt state.now place literal row }
-    ensures some { IfOk result (λ o. IfSome o (IsEndingRow formula.now.constraints state.now (P.state engine.now) place)) }
-    ensures none { IfOk result (λ o. o ≡ None → RowGoesOn formula.now.constraints state.now (P.state engine.now) place) }
-{
-    if !formula.assumes(literal.negate()) {
-        return Ok(None);
-    }
-    let reason = reason_clause(alloc, engine, row, Some(literal), &state.trail)?;
-    if !formula.is_ending(reason.clause.as_slice()) {
-        return Ok(None);
-    }
-    Ok(Some(EndingRow { literal, reason }))
+/// A search at level 0, as its rows are looked over.
+#[derive(Drop)]
+pub(crate) struct LevelZero<'z, P> {
+    pub alloc: Global,
+    pub formula: &'z Formula,
+    pub state: &'z SearchState,
+    pub engine: &'z P,
 }
 
-/// The row that implied this literal, at this place and for this reason, where its clause would end the log.
-fn ending_by<P: ParityEngine>(
-    alloc: Global,
-    formula: &Formula,
-    state: &SearchState,
-    engine: &P,
-    reason: Reason,
-    literal: Lit,
-    place: usize,
-) -> Result<Option<EndingRow>, AllocError>
-    requires sound { IsTrail state.now.trail }
-    requires reasons { HaveReasons state.now (P.state engine.now) }
-    requires late { length state.now.units.items ≤ place }
-    requires within { place < length state.now.trail.entries }
-    requires is { literal_at state.now.trail place ≡ literal }
-    requires reason { (entry_at state.now.trail.entries place).reason ≡ reason }
-    ensures some { IfOk result (λ o. IfSome o (IsEndingRow formula.now.constraints state.now (P.state engine.now) place)) }
-    ensures none { IfOk result (λ o. o ≡ None → RowGoesOn formula.now.constraints state.now (P.state engine.now) place) }
-{
-    match reason {
-        Reason::Row(row) => ending_of_row(alloc, formula, state, engine, row, literal, place),
-        Reason::Clause(_) => Ok(None),
-        Reason::Decision => Ok(None),
+impl<P: ParityEngine> LevelZero<'_, P> {
+    /// The row that implied this literal, at this place, where its clause would end the log.
+    fn ending_of_row(
+        &self,
+        row: Row,
+        literal: Lit,
+        place: usize,
+    ) -> Result<Option<EndingRow>, AllocError>
+        requires sound { IsTrail self.now.state.now.trail }
+        requires reasons { HaveReasons self.now.state.now (P.state self.now.engine.now) }
+        requires implied { IsImpliedAt self.now.state.now place literal row }
+        ensures some { IfOk result (λ o. IfSome o (IsEndingRow self.now.formula.now.constraints self.now.state.now (P.state self.now.engine.now) place)) }
+        ensures none { IfOk result (λ o. o ≡ None → RowGoesOn self.now.formula.now.constraints self.now.state.now (P.state self.now.engine.now) place) }
+    {
+        if !self.formula.assumes(literal.negate()) {
+            return Ok(None);
+        }
+        let reason = reason_clause(
+            self.alloc,
+            self.engine,
+            row,
+            Some(literal),
+            &self.state.trail,
+        )?;
+        if !self.formula.is_ending(reason.clause.as_slice()) {
+            return Ok(None);
+        }
+        Ok(Some(EndingRow { literal, reason }))
     }
-}
 
-/// The row that implied the literal at a place, where its clause would end the log.
-fn ending_at<P: ParityEngine>(
-    alloc: Global,
-    formula: &Formula,
-    state: &SearchState,
-    engine: &P,
-    place: usize,
-) -> Result<Option<EndingRow>, AllocError>
-    requires sound { IsTrail state.now.trail }
-    requires reasons { HaveReasons state.now (P.state engine.now) }
-    requires late { length state.now.units.items ≤ place }
-    requires within { place < length state.now.trail.entries }
-    ensures some { IfOk result (λ o. IfSome o (IsEndingRow formula.now.constraints state.now (P.state engine.now) place)) }
-    ensures none { IfOk result (λ o. o ≡ None → RowGoesOn formula.now.constraints state.now (P.state engine.now) place) }
-{
-    let entry = state.trail.entry(place);
-    ending_by(
-        alloc,
-        formula,
-        state,
-        engine,
-        entry.reason,
-        entry.literal,
-        place,
-    )
-}
-
-/// The first row of the trail whose clause would end the log.
-pub(crate) fn first_ending<P: ParityEngine>(
-    alloc: Global,
-    formula: &Formula,
-    state: &SearchState,
-    engine: &P,
-) -> Result<Option<EndingRow>, AllocError>
-    requires sound { IsTrail state.now.trail }
-    requires reasons { HaveReasons state.now (P.state engine.now) }
-    ensures { IfOk result (IsFirst formula.now.constraints state.now (P.state engine.now)) }
-{
-    for place in state.units.len()..state.trail.len() {
-        if let Some(row) = ending_at(alloc, formula, state, engine, place)? {
-            return Ok(Some(row));
+    /// The row that implied this literal, at this place and for this reason, where its clause would end the log.
+    fn ending_by(
+        &self,
+        reason: Reason,
+        literal: Lit,
+        place: usize,
+    ) -> Result<Option<EndingRow>, AllocError>
+        requires sound { IsTrail self.now.state.now.trail }
+        requires reasons { HaveReasons self.now.state.now (P.state self.now.engine.now) }
+        requires late { length self.now.state.now.units.items ≤ place }
+        requires within { place < length self.now.state.now.trail.entries }
+        requires is { literal_at self.now.state.now.trail place ≡ literal }
+        requires reason { (entry_at self.now.state.now.trail.entries place).reason ≡ reason }
+        ensures some { IfOk result (λ o. IfSome o (IsEndingRow self.now.formula.now.constraints self.now.state.now (P.state self.now.engine.now) place)) }
+        ensures none { IfOk result (λ o. o ≡ None → RowGoesOn self.now.formula.now.constraints self.now.state.now (P.state self.now.engine.now) place) }
+    {
+        match reason {
+            Reason::Row(row) => self.ending_of_row(row, literal, place),
+            Reason::Clause(_) => Ok(None),
+            Reason::Decision => Ok(None),
         }
     }
-    Ok(None)
-}
 
-/// The reason that a row gives, where its clause would not end the log; else the sum of the row and of the first one whose clause would.
-pub(crate) fn going_on<P: ParityEngine>(
-    alloc: Global,
-    formula: &Formula,
-    state: &SearchState,
-    engine: &P,
-    first: &Option<EndingRow>,
-    reason: ReasonOf,
-    implied: Option<Lit>,
-) -> Result<ReasonOf, AllocError>
-    requires sound { IsTrail state.now.trail }
-    requires apart { IsFalse (clashes formula.now.constraints) }
-    requires reason { IsReason (P.state engine.now).parities state.now.trail implied reason }
-    requires first { IsFirst formula.now.constraints state.now (P.state engine.now) first.now }
-    requires beside { IsTrue (is_ending formula.now.constraints reason.clause) → HasRowBeside implied first.now }
-    ensures goes_on { IfOk result (λ r. IsFalse (is_ending formula.now.constraints r.clause)) }
-    ensures reason { IfOk result (IsReason (P.state engine.now).parities state.now.trail implied) }
-    ensures variables { IfOk result (λ r. HasVariablesOf formula.now.constraints reason.clause first.now r.clause) }
-{
-    let clause = reason.clause.as_slice();
-    if !formula.is_ending(clause) {
-        return Ok(reason);
+    /// The row that implied the literal at a place, where its clause would end the log.
+    fn ending_at(&self, place: usize) -> Result<Option<EndingRow>, AllocError>
+        requires sound { IsTrail self.now.state.now.trail }
+        requires reasons { HaveReasons self.now.state.now (P.state self.now.engine.now) }
+        requires late { length self.now.state.now.units.items ≤ place }
+        requires within { place < length self.now.state.now.trail.entries }
+        ensures some { IfOk result (λ o. IfSome o (IsEndingRow self.now.formula.now.constraints self.now.state.now (P.state self.now.engine.now) place)) }
+        ensures none { IfOk result (λ o. o ≡ None → RowGoesOn self.now.formula.now.constraints self.now.state.now (P.state self.now.engine.now) place) }
+    {
+        let entry = self.state.trail.entry(place);
+        self.ending_by(entry.reason, entry.literal, place)
     }
-    match first {
-        Some(row) => {
-            let pair = ReasonPair {
-                one: &reason,
-                other: &row.reason,
-            };
-            sum_of_reasons(alloc, engine, pair, implied, &state.trail)
+
+    /// The first row of the trail whose clause would end the log.
+    pub(crate) fn first_ending(&self) -> Result<Option<EndingRow>, AllocError>
+        requires sound { IsTrail self.now.state.now.trail }
+        requires reasons { HaveReasons self.now.state.now (P.state self.now.engine.now) }
+        ensures { IfOk result (IsFirst self.now.formula.now.constraints self.now.state.now (P.state self.now.engine.now)) }
+    {
+        for place in self.state.units.len()..self.state.trail.len() {
+            if let Some(row) = self.ending_at(place)? {
+                return Ok(Some(row));
+            }
         }
-        None => unreachable!(),
+        Ok(None)
+    }
+
+    /// The reason that a row gives, where its clause would not end the log; else the sum of the row and of the first one whose clause would.
+    pub(crate) fn going_on(
+        &self,
+        first: &Option<EndingRow>,
+        reason: ReasonOf,
+        implied: Option<Lit>,
+    ) -> Result<ReasonOf, AllocError>
+        requires sound { IsTrail self.now.state.now.trail }
+        requires apart { IsFalse (clashes self.now.formula.now.constraints) }
+        requires reason { IsReason (P.state self.now.engine.now).parities self.now.state.now.trail implied reason }
+        requires first { IsFirst self.now.formula.now.constraints self.now.state.now (P.state self.now.engine.now) first.now }
+        requires beside { IsTrue (is_ending self.now.formula.now.constraints reason.clause) → HasRowBeside implied first.now }
+        ensures goes_on { IfOk result (λ r. IsFalse (is_ending self.now.formula.now.constraints r.clause)) }
+        ensures reason { IfOk result (IsReason (P.state self.now.engine.now).parities self.now.state.now.trail implied) }
+        ensures variables { IfOk result (λ r. HasVariablesOf self.now.formula.now.constraints reason.clause first.now r.clause) }
+    {
+        let clause = reason.clause.as_slice();
+        if !self.formula.is_ending(clause) {
+            return Ok(reason);
+        }
+        match first {
+            Some(row) => {
+                let pair = ReasonPair {
+                    one: &reason,
+                    other: &row.reason,
+                };
+                sum_of_reasons(self.alloc, self.engine, pair, implied, &self.state.trail)
+            }
+            None => unreachable!(),
+        }
     }
 }

@@ -1,9 +1,8 @@
 //! Assumptions that fail.
 ghost use Rattle.std.specs.Prelude.{◌≡◌, ℕ, ◌≤◌, List, [], length, IfOk, OnOk, None};
 ghost use Rattle.cx_semantics.specs.Chain.{negations};
-ghost use Rattle.conflict_learn.specs.Faults.{fault_in};
 ghost use Rattle.conflict_learn.specs.Marks.{AreClear};
-ghost use Rattle.cdcl_search.specs.Logs.{GoesOn, HasNotFailed, Stands};
+ghost use Rattle.cdcl_core.specs.Analysing.{AnalysesOn, CanAnalyse};
 ghost use Rattle.cdcl_core.specs.Concluding.{IsTold, TellsEnd};
 ghost use Rattle.cdcl_core.specs.Failing.{IsFailure, IsLeftOf};
 
@@ -51,16 +50,12 @@ fn trace<'x, P: ParityEngine, L: Sink<Item = LogEvent>>(
     rows: &'x mut Vec<LitList>,
     marks: &mut Marks,
 ) -> Result<Final, CoreFault>
-    requires stands { Stands P.ParityEngine L.Sink log.old state.now engine.now rows.old.items }
+    requires ready { CanAnalyse P.ParityEngine L.Sink log.old state.now engine.now marks.old rows.old.items }
     requires fails { (n : ℕ) × IsFailure log.old.formula.now.constraints state.now lits.now n kept.now below rows.old.items }
     requires few_rows { length rows.old.items ≤ 1 }
-    requires clear { AreClear marks.old }
-    requires going { HasNotFailed L.Sink log.old }
-    ensures stands { OnOk result (Stands P.ParityEngine L.Sink log.new state.now engine.now rows.new.items) }
     ensures left { (n : ℕ) → IsFailure log.old.formula.now.constraints state.now lits.now n kept.now below rows.old.items
         → IfOk result (IsLeftOf log.new.formula.now.constraints state.now lits.now n kept.now below rows.new.items) }
-    ensures clear { OnOk result (AreClear marks.new) }
-    ensures log { GoesOn L.Sink log.old (fault_in result) log.new }
+    ensures on { AnalysesOn P.ParityEngine L.Sink log.old log.new state.now engine.now marks.new rows.new.items result }
 {
     let alloc = log.alloc;
     let mut source = Source {
@@ -89,11 +84,9 @@ pub(crate) fn fail<P: ParityEngine, L: Sink<Item = LogEvent>>(
     marks: &mut Marks,
     failure: Failure,
 ) -> Result<LitList, CoreFault>
-    requires stands { Stands P.ParityEngine L.Sink log.old state.now engine.now failure.conflict.rows.items }
+    requires ready { CanAnalyse P.ParityEngine L.Sink log.old state.now engine.now marks.old failure.conflict.rows.items }
     requires fails { IsFailure log.old.formula.now.constraints state.now failure.conflict.lits failure.conflict.id failure.kept failure.below failure.conflict.rows.items }
     requires told { IsTold failure.conflict }
-    requires clear { AreClear marks.old }
-    requires going { HasNotFailed L.Sink log.old }
     ensures ends { TellsEnd L.Sink log.old state.now log.new result }
     ensures none { failure.kept ≡ None → state.now.trail.level ≡ 0 → IfOk result (λ failed. failed ≡ []) }
     ensures clear { OnOk result (AreClear marks.new) }

@@ -1,5 +1,5 @@
 //! Learning from a conflict.
-ghost use Rattle.std.specs.Prelude.{◌≡◌, ℕ, ◌<◌, ◌≤◌, ◌^◌, pos, [], ◌∷◌, ◌++◌, length, IfOk, OnOk};
+ghost use Rattle.std.specs.Prelude.{◌≡◌, pos, [], ◌∷◌, ◌++◌, IfOk, OnOk};
 ghost use Rattle.std.specs.List.{Contains};
 ghost use Rattle.cx_base.specs.Integers.{integers_of, literals};
 ghost use Rattle.cx_base.specs.Numbers.{AreStepIntegers};
@@ -10,17 +10,14 @@ ghost use Rattle.conflict_learn.specs.Learning.{literals_of};
 ghost use Rattle.conflict_learn.specs.declared.learning.Resolved.{Resolved};
 ghost use Rattle.conflict_learn.specs.Marks.{AreClear};
 ghost use Rattle.conflict_learn.specs.Touching.{AreTouched};
-ghost use Rattle.search_policy.specs.Assuming.{AreApart};
 ghost use Rattle.search_steps.specs.Hints.{hints_from};
-ghost use Rattle.search_steps.specs.Recovering.{SettledWithRecovered};
 ghost use Rattle.cdcl_search.specs.Deleting.{deletions};
 ghost use Rattle.cdcl_search.specs.Tells.{IsId, AreIdsFrom, AreStepsOf};
 ghost use Rattle.cdcl_search.specs.Logs.{GoesOn, HasNotFailed, told_in};
 ghost use Rattle.cdcl_search.specs.Ties.{first_row_id, row_ids};
-ghost use Rattle.cdcl_search.specs.Sources.{RowsAreApart};
-ghost use Rattle.cdcl_core.specs.Concluding.{IsAtConflict, IsTold};
-ghost use Rattle.cdcl_core.specs.Failing.{IsFree};
-ghost use Rattle.cdcl_core.specs.Learning.{Learns, IsLesson};
+ghost use Rattle.cdcl_core.specs.Analysing.{AnalysesOn, CanAnalyse};
+ghost use Rattle.cdcl_core.specs.Concluding.{IsAtConflict, IsConflictClause, IsTold};
+ghost use Rattle.cdcl_core.specs.Learning.{IsLesson, Learns, MayLearn};
 
 use crate::conflicts::Conflict;
 use cdcl_search::SearchState;
@@ -91,67 +88,59 @@ pub(crate) fn hints_of_lesson(
     Ok(IntList::from_vec(hints))
 }
 
-/// Tells what a conflict taught: the mark, the learned clause with its hints, and the deletions of the clauses of rows. The
-/// conflict's clause has the id.
+/// Tells what a conflict taught: the mark, the learned clause with its hints, and the deletions of the clauses of rows.
 fn tell_learned<P: ParityEngine, L: Sink<Item = LogEvent>>(
     log: &mut SearchLog<L>,
     state: &SearchState,
     engine: &P,
-    conflict: &LitList,
-    rows: &[LitList],
-    id: u64,
+    conflict: &Conflict,
     learned: &Learned,
 ) -> Result<(), CoreFault>
-    requires at { IsAtConflict P.ParityEngine L.Sink log.old state.now engine.now rows.now conflict.now id }
-    requires few { state.now.conflicts < 10 ^ 18 }
-    requires id { IsId id }
-    requires unsettled { ¬ SettledWithRecovered log.old.formula.now }
-    requires free { IsFree log.old.formula.now.constraints state.now.trail }
-    requires lesson { IsLesson state.now rows.now conflict.now learned.now }
+    requires at { IsAtConflict P.ParityEngine L.Sink log.old state.now engine.now conflict.now.rows.items conflict.now.lits conflict.now.id }
+    requires id { IsId conflict.now.id }
+    requires may { MayLearn log.old.formula.now state.now }
+    requires lesson { IsLesson state.now conflict.now.rows.items conflict.now.lits learned.now }
     requires going { HasNotFailed L.Sink log.old }
     ensures learned { OnOk result (Learns log.new.formula.now state.now (P.state engine.now) learned.now.lits learned.now.back_level (told_in L.Sink log.new)) }
     ensures log { GoesOn L.Sink log.old (fault_in result) log.new }
 {
-    let hints = hints_of_lesson(log.alloc, &learned.resolved, id)?;
+    let hints = hints_of_lesson(log.alloc, &learned.resolved, conflict.id)?;
     let steps = steps_of_learned(
         log.alloc,
         state.next,
         learned.lits.as_slice(),
         hints,
-        rows.len(),
+        conflict.rows.len(),
     )?;
     tell_round(log, state.conflicts + 1, steps)
 }
 
-/// What a conflict above level 0 teaches. The clauses of rows that are told for it come after these rows.
+/// What a conflict teaches. The clauses of rows that are told for it come after its own.
 fn lesson_of<'x, P: ParityEngine, L: Sink<Item = LogEvent>>(
     log: &'x mut SearchLog<L>,
     state: &'x SearchState,
     engine: &'x P,
-    conflict: &LitList,
-    rows: &'x mut Vec<LitList>,
     marks: &mut Marks,
+    conflict: &'x mut Conflict,
 ) -> Result<Learned, CoreFault>
-    requires apart { RowsAreApart log.old.formula.now.constraints state.now.trail (length state.now.trail.entries) }
-    requires at { (n : ℕ) × IsAtConflict P.ParityEngine L.Sink log.old state.now engine.now rows.old.items conflict.now n }
-    requires few_rows { length rows.old.items ≤ 1 }
-    requires clear { AreClear marks.old }
-    requires going { HasNotFailed L.Sink log.old }
-    ensures at { (n : ℕ) → IsAtConflict P.ParityEngine L.Sink log.old state.now engine.now rows.old.items conflict.now n
-        → OnOk result (IsAtConflict P.ParityEngine L.Sink log.new state.now engine.now rows.new.items conflict.now n) }
-    ensures lesson { IfOk result (IsLesson state.now rows.new.items conflict.now) }
-    ensures clear { OnOk result (AreClear marks.new) }
-    ensures log { GoesOn L.Sink log.old (fault_in result) log.new }
+    requires ready { CanAnalyse P.ParityEngine L.Sink log.old state.now engine.now marks.old conflict.old.rows.items }
+    requires conflict { IsConflictClause state.now conflict.old.rows.items conflict.old.lits conflict.old.id }
+    requires told { IsTold conflict.old }
+    requires may { MayLearn log.old.formula.now state.now }
+    ensures lesson { IfOk result (IsLesson state.now conflict.new.rows.items conflict.new.lits) }
+    ensures conflict { OnOk result (IsConflictClause state.now conflict.new.rows.items conflict.new.lits conflict.new.id) }
+    ensures id { conflict.new.id ≡ conflict.old.id }
+    ensures on { AnalysesOn P.ParityEngine L.Sink log.old log.new state.now engine.now marks.new conflict.new.rows.items result }
 {
     let alloc = log.alloc;
     let mut source = Source {
         log,
         state,
         engine,
-        rows,
+        rows: &mut conflict.rows,
         below: state.trail.len(),
     };
-    analyse(alloc, &state.trail, conflict, marks, &mut source)
+    analyse(alloc, &state.trail, &conflict.lits, marks, &mut source)
 }
 
 /// What a conflict above the levels of the assumed literals teaches: so its clause is no ending clause. The mark, the learned clause with its hints, and the deletions of the clauses of rows are told.
@@ -162,22 +151,17 @@ pub(crate) fn learn<P: ParityEngine, L: Sink<Item = LogEvent>>(
     marks: &mut Marks,
     conflict: Conflict,
 ) -> Result<Learned, CoreFault>
-    requires apart { AreApart log.old.formula.now.constraints state.now.trail (length state.now.trail.entries) }
-    requires free { IsFree log.old.formula.now.constraints state.now.trail }
-    requires at { IsAtConflict P.ParityEngine L.Sink log.old state.now engine.now conflict.rows.items conflict.lits conflict.id }
-    requires few { state.now.conflicts < 10 ^ 18 }
+    requires ready { CanAnalyse P.ParityEngine L.Sink log.old state.now engine.now marks.old conflict.rows.items }
+    requires conflict { IsConflictClause state.now conflict.rows.items conflict.lits conflict.id }
     requires told { IsTold conflict }
-    requires unsettled { ¬ SettledWithRecovered log.old.formula.now }
-    requires clear { AreClear marks.old }
-    requires going { HasNotFailed L.Sink log.old }
+    requires may { MayLearn log.old.formula.now state.now }
     ensures learned { IfOk result (λ r. Learns log.new.formula.now state.now (P.state engine.now) r.lits r.back_level (told_in L.Sink log.new)) }
     ensures touched { IfOk result (λ r. AreTouched state.now.trail (literals_of r.resolved.items) r.lits r.touched.items) }
     ensures clear { OnOk result (AreClear marks.new) }
     ensures log { GoesOn L.Sink log.old (fault_in result) log.new }
 {
-    let Conflict { lits, id, rows } = conflict;
-    let mut rows = rows;
-    let learned = lesson_of(log, state, engine, &lits, &mut rows, marks)?;
-    tell_learned(log, state, engine, &lits, &rows, id, &learned)?;
+    let mut conflict = conflict;
+    let learned = lesson_of(log, state, engine, marks, &mut conflict)?;
+    tell_learned(log, state, engine, &conflict, &learned)?;
     Ok(learned)
 }

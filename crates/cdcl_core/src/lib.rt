@@ -1,6 +1,7 @@
 //! The search over clauses and parities: conflict-driven clause learning with Gauss-Jordan elimination.
 #![tactic(auto)]
 
+mod analyser;
 mod beginning;
 mod clauses;
 mod compacting;
@@ -20,6 +21,7 @@ mod reducing;
 mod refuted_rows;
 mod refuting;
 mod restarting;
+mod rounds;
 mod schedule;
 mod shortening;
 mod solving;

@@ -2,14 +2,13 @@
 ghost use Rattle.std.specs.Prelude.{◌≡◌, ◌+◌, ◌<◌, ◌≤◌, ◌∷◌, [], ◌++◌, length, take, OnOk, IfOk, IsFalse};
 ghost use Rattle.cx_base.specs.Assumptions.{clashes};
 ghost use Rattle.std.specs.List.{AllByRecursion};
-ghost use Rattle.cx_base.specs.Problem.{AreWithin, parities_of};
+ghost use Rattle.cx_base.specs.Problem.{parities_of};
 ghost use Rattle.cx_base.specs.Integers.{integers_of};
 ghost use Rattle.cx_base.specs.declared.steps.LogStep.TheVariants as step;
 ghost use Rattle.conflict_learn.specs.Faults.{fault_in};
-ghost use Rattle.xor_recover.specs.Finds.{IsJudgedRight};
 ghost use Rattle.cdcl_search.specs.Logs.{GoesOn, HasNotFailed, told_in};
 ghost use Rattle.cdcl_search.specs.Tells.{IsId, IsStep};
-ghost use Rattle.cdcl_core.specs.Given.{AreEngines, HasGiven};
+ghost use Rattle.cdcl_core.specs.Given.{AreEngines, HasGiven, IsRightFind};
 ghost use Rattle.cdcl_core.specs.Originals.{HasBegun};
 
 use cdcl_search::integers::integers;
@@ -75,8 +74,7 @@ fn tell_find<L: Sink<Item = LogEvent>>(
     requires few { length log.old.formula.now.constraints ≤ 4294967295 }
     requires fewer { length parities.old.items < length log.old.formula.now.constraints }
     requires given { HasGiven log.old.formula.now parities.old.items (told_in L.Sink log.old) }
-    requires within { AreWithin log.old.formula.now.variables find.now.parity }
-    requires judged { IsJudgedRight log.old.formula.now find.now }
+    requires find { IsRightFind log.old.formula.now find.now }
     requires going { HasNotFailed L.Sink log.old }
     ensures given { OnOk result (HasGiven log.new.formula.now parities.new.items (told_in L.Sink log.new)) }
     ensures one_more { OnOk result (parities.new.items ≡ parities.old.items ++ find.now.parity ∷ []) }

@@ -1,19 +1,20 @@
 //! Conflicts at level 0: the empty clause follows, whatever is assumed.
-ghost use Rattle.std.specs.Prelude.{◌≡◌, ◌≢◌, [], filter, IfOk, IsFalse, IsSome, IsTrue, None, OnOk, Some};
+ghost use Rattle.std.specs.Prelude.{◌≡◌, ◌≢◌, [], filter, IfOk, OnOk, IsFalse, IsSome, IsTrue, None, Some};
 ghost use Rattle.cx_base.specs.Assumptions.{is_ending};
 ghost use Rattle.conflict_learn.specs.Marks.{AreClear};
 ghost use Rattle.cdcl_search.specs.Finds.{IsClash, PropagationFinds};
-ghost use Rattle.cdcl_search.specs.Logs.{HasNotFailed, Stands};
 ghost use Rattle.cdcl_search.specs.declared.propagation.Found.TheVariants.{Quiet};
 ghost use Rattle.cdcl_search.specs.declared.propagation.Found.TheVariants as found;
 ghost use Rattle.xor_reason.specs.Reasons.{IsReason};
+ghost use Rattle.cdcl_core.specs.Analysing.{CanAnalyse, IsAtZero, IsFirstOf, TellsRefutation};
 ghost use Rattle.cdcl_core.specs.Concluding.{IsConflictClause, IsTold, TellsEnd};
 ghost use Rattle.cdcl_core.specs.Failing.{IsRefuted};
-ghost use Rattle.cdcl_core.specs.Refuting.{IsFirst, IsFirstEnding, is_told};
+ghost use Rattle.cdcl_core.specs.Refuting.{is_told};
 
+use crate::analyser::Analyser;
 use crate::conflicts::{Conclusion, Conflict, conflict_clause, told_row};
 use crate::ending::{tell_empty, tell_ending};
-use crate::ending_rows::{EndingRow, first_ending, going_on};
+use crate::ending_rows::{EndingRow, LevelZero};
 use crate::learning::{hints_of_lesson, hints_of_resolved};
 use crate::level_zero::{NOT_TOLD, trace_all};
 use crate::refuted_rows::end_of_refuted;
@@ -51,34 +52,6 @@ fn told_ones(alloc: Global, resolved: &[Resolved]) -> Result<Vec<Resolved>, Allo
     Ok(told)
 }
 
-/// Ends the log by a clause that is false at level 0, where no row's clause would end it before.
-fn refute_told<P: ParityEngine, L: Sink<Item = LogEvent>>(
-    log: &mut SearchLog<L>,
-    state: &SearchState,
-    engine: &P,
-    marks: &mut Marks,
-    conflict: Conflict,
-) -> Result<LitList, CoreFault>
-    requires stands { Stands P.ParityEngine L.Sink log.old state.now engine.now conflict.rows.items }
-    requires conflict { IsConflictClause state.now conflict.rows.items conflict.lits conflict.id }
-    requires told { IsTold conflict }
-    requires none { IsFirst log.old.formula.now.constraints state.now (P.state engine.now) None }
-    requires level { state.now.trail.level ≡ 0 }
-    requires clear { AreClear marks.old }
-    requires going { HasNotFailed L.Sink log.old }
-    ensures ends { TellsEnd L.Sink log.old state.now log.new result }
-    ensures none { IfOk result (λ failed. failed ≡ []) }
-    ensures clear { OnOk result (AreClear marks.new) }
-{
-    let Conflict { lits, id, rows } = conflict;
-    let mut rows = rows;
-    let first = None;
-    let traced = trace_all(log, state, engine, &lits, &first, &mut rows, marks)?;
-    let hints = hints_of_lesson(log.alloc, &traced.resolved, id)?;
-    tell_empty(log, state, hints)?;
-    Ok(LitList::from_vec(Vec::new(log.alloc)))
-}
-
 /// The reason of a row that is given.
 fn reason_of(first: Option<EndingRow>) -> ReasonOf
     requires { (row : EndingRow) × (first ≡ Some row) }
@@ -90,215 +63,228 @@ fn reason_of(first: Option<EndingRow>) -> ReasonOf
     }
 }
 
-/// Ends the log by a clause that is false at level 0, where this row is the first one whose clause would end it before.
-fn refute_beside<P: ParityEngine, L: Sink<Item = LogEvent>>(
-    log: &mut SearchLog<L>,
-    state: &SearchState,
-    engine: &P,
-    marks: &mut Marks,
-    conflict: Conflict,
-    row: EndingRow,
-) -> Result<LitList, CoreFault>
-    requires stands { Stands P.ParityEngine L.Sink log.old state.now engine.now conflict.rows.items }
-    requires conflict { IsConflictClause state.now conflict.rows.items conflict.lits conflict.id }
-    requires told { IsTold conflict }
-    requires first { IsFirstEnding log.old.formula.now.constraints state.now (P.state engine.now) row }
-    requires level { state.now.trail.level ≡ 0 }
-    requires clear { AreClear marks.old }
-    requires going { HasNotFailed L.Sink log.old }
-    ensures ends { TellsEnd L.Sink log.old state.now log.new result }
-    ensures none { IfOk result (λ failed. failed ≡ []) }
-    ensures clear { OnOk result (AreClear marks.new) }
-{
-    let Conflict { lits, id, rows } = conflict;
-    let mut rows = rows;
-    let first = Some(row);
-    let traced = trace_all(log, state, engine, &lits, &first, &mut rows, marks)?;
-    let told = told_ones(log.alloc, &traced.resolved)?;
-    let hints = hints_of_lesson(log.alloc, &told, id)?;
-    let reason = reason_of(first);
-    let count = rows.len();
-    let ending = end_of_refuted(log.alloc, log.formula, state, reason, &hints, count)?;
-    tell_ending(log, state, ending)
-}
+impl<P: ParityEngine, L: Sink<Item = LogEvent>> Analyser<'_, '_, P, L> {
+    /// Ends the log by a clause that is false at level 0, where no row's clause would end it before.
+    fn refute_told(&mut self, conflict: Conflict) -> Result<LitList, CoreFault>
+        requires at { IsAtZero P.ParityEngine L.Sink self.old conflict.rows.items }
+        requires conflict { IsConflictClause self.old.state.now conflict.rows.items conflict.lits conflict.id }
+        requires told { IsTold conflict }
+        requires none { IsFirstOf P.ParityEngine self.old None }
+        ensures { TellsRefutation L.Sink self.old result self.new }
+    {
+        let Conflict { lits, id, rows } = conflict;
+        let mut rows = rows;
+        let first = None;
+        let traced = trace_all(
+            self.log,
+            self.state,
+            self.engine,
+            &lits,
+            &first,
+            &mut rows,
+            self.marks,
+        )?;
+        let hints = hints_of_lesson(self.log.alloc, &traced.resolved, id)?;
+        tell_empty(self.log, self.state, hints)?;
+        Ok(LitList::from_vec(Vec::new(self.log.alloc)))
+    }
 
-/// Ends the log by a clause that is false at level 0. The first row whose clause would end it before may be given.
-fn refute_by<P: ParityEngine, L: Sink<Item = LogEvent>>(
-    log: &mut SearchLog<L>,
-    state: &SearchState,
-    engine: &P,
-    marks: &mut Marks,
-    conflict: Conflict,
-    first: Option<EndingRow>,
-) -> Result<LitList, CoreFault>
-    requires stands { Stands P.ParityEngine L.Sink log.old state.now engine.now conflict.rows.items }
-    requires conflict { IsConflictClause state.now conflict.rows.items conflict.lits conflict.id }
-    requires told { IsTold conflict }
-    requires first { IsFirst log.old.formula.now.constraints state.now (P.state engine.now) first }
-    requires level { state.now.trail.level ≡ 0 }
-    requires clear { AreClear marks.old }
-    requires going { HasNotFailed L.Sink log.old }
-    ensures ends { TellsEnd L.Sink log.old state.now log.new result }
-    ensures none { IfOk result (λ failed. failed ≡ []) }
-    ensures clear { OnOk result (AreClear marks.new) }
-{
-    match first {
-        Some(row) => refute_beside(log, state, engine, marks, conflict, row),
-        None => refute_told(log, state, engine, marks, conflict),
+    /// Ends the log by a clause that is false at level 0, where this row is the first one whose clause would end it before.
+    fn refute_beside(&mut self, conflict: Conflict, row: EndingRow) -> Result<LitList, CoreFault>
+        requires at { IsAtZero P.ParityEngine L.Sink self.old conflict.rows.items }
+        requires conflict { IsConflictClause self.old.state.now conflict.rows.items conflict.lits conflict.id }
+        requires told { IsTold conflict }
+        requires first { IsFirstOf P.ParityEngine self.old (Some row) }
+        ensures { TellsRefutation L.Sink self.old result self.new }
+    {
+        let Conflict { lits, id, rows } = conflict;
+        let mut rows = rows;
+        let first = Some(row);
+        let traced = trace_all(
+            self.log,
+            self.state,
+            self.engine,
+            &lits,
+            &first,
+            &mut rows,
+            self.marks,
+        )?;
+        let told = told_ones(self.log.alloc, &traced.resolved)?;
+        let hints = hints_of_lesson(self.log.alloc, &told, id)?;
+        let reason = reason_of(first);
+        let count = rows.len();
+        let ending = end_of_refuted(
+            self.log.alloc,
+            self.log.formula,
+            self.state,
+            reason,
+            &hints,
+            count,
+        )?;
+        tell_ending(self.log, self.state, ending)
+    }
+
+    /// Ends the log by a clause that is false at level 0. The first row whose clause would end it before may be given.
+    fn refute_by(
+        &mut self,
+        conflict: Conflict,
+        first: Option<EndingRow>,
+    ) -> Result<LitList, CoreFault>
+        requires at { IsAtZero P.ParityEngine L.Sink self.old conflict.rows.items }
+        requires conflict { IsConflictClause self.old.state.now conflict.rows.items conflict.lits conflict.id }
+        requires told { IsTold conflict }
+        requires first { IsFirstOf P.ParityEngine self.old first }
+        ensures { TellsRefutation L.Sink self.old result self.new }
+    {
+        match first {
+            Some(row) => self.refute_beside(conflict, row),
+            None => self.refute_told(conflict),
+        }
+    }
+
+    /// Ends the log by a row that is not met at level 0, where its own clause is the first that would end it before.
+    fn refute_ending(&mut self, reason: ReasonOf) -> Result<LitList, CoreFault>
+        requires at { IsAtZero P.ParityEngine L.Sink self.old [] }
+        requires none { IsFirstOf P.ParityEngine self.old None }
+        requires reason { IsReason (P.state self.old.engine.now).parities self.old.state.now.trail None reason }
+        requires ending { IsTrue (is_ending self.old.log.now.formula.now.constraints reason.clause) }
+        ensures { TellsRefutation L.Sink self.old result self.new }
+    {
+        let mut rows = Vec::new(self.log.alloc);
+        let first = None;
+        let traced = trace_all(
+            self.log,
+            self.state,
+            self.engine,
+            &reason.clause,
+            &first,
+            &mut rows,
+            self.marks,
+        )?;
+        let hints = IntList::from_vec(hints_of_resolved(self.log.alloc, &traced.resolved)?);
+        let count = rows.len();
+        let ending = end_of_refuted(
+            self.log.alloc,
+            self.log.formula,
+            self.state,
+            reason,
+            &hints,
+            count,
+        )?;
+        tell_ending(self.log, self.state, ending)
+    }
+
+    /// Ends the log by a row that is not met at level 0, where no other row's clause would end it before.
+    fn refute_row_alone(&mut self, reason: ReasonOf) -> Result<LitList, CoreFault>
+        requires at { IsAtZero P.ParityEngine L.Sink self.old [] }
+        requires reason { IsReason (P.state self.old.engine.now).parities self.old.state.now.trail None reason }
+        requires none { IsFirstOf P.ParityEngine self.old None }
+        ensures { TellsRefutation L.Sink self.old result self.new }
+    {
+        if self.log.formula.is_ending(reason.clause.as_slice()) {
+            return self.refute_ending(reason);
+        }
+        let conflict = told_row(self.log, self.state, self.engine, reason)?;
+        self.refute_told(conflict)
+    }
+
+    /// Ends the log by a row that is not met at level 0, where this row is the first one whose clause would end it before.
+    fn refute_row_beside(
+        &mut self,
+        reason: ReasonOf,
+        first: Option<EndingRow>,
+    ) -> Result<LitList, CoreFault>
+        requires at { IsAtZero P.ParityEngine L.Sink self.old [] }
+        requires reason { IsReason (P.state self.old.engine.now).parities self.old.state.now.trail None reason }
+        requires first { IsFirstOf P.ParityEngine self.old first }
+        requires some { IsSome first }
+        ensures { TellsRefutation L.Sink self.old result self.new }
+    {
+        let zero = LevelZero {
+            alloc: self.log.alloc,
+            formula: self.log.formula,
+            state: self.state,
+            engine: self.engine,
+        };
+        let told = zero.going_on(&first, reason, None)?;
+        let conflict = told_row(self.log, self.state, self.engine, told)?;
+        self.refute_by(conflict, first)
+    }
+
+    /// Ends the log by a row that is not met at level 0.
+    fn refute_row(&mut self, row: Row, first: Option<EndingRow>) -> Result<LitList, CoreFault>
+        requires at { IsAtZero P.ParityEngine L.Sink self.old [] }
+        requires clash { IsClash (P.state self.old.engine.now) row }
+        requires first { IsFirstOf P.ParityEngine self.old first }
+        ensures { TellsRefutation L.Sink self.old result self.new }
+    {
+        let reason = reason_clause(self.log.alloc, self.engine, row, None, &self.state.trail)?;
+        match first {
+            Some(row) => self.refute_row_beside(reason, Some(row)),
+            None => self.refute_row_alone(reason),
+        }
+    }
+
+    /// Ends the log by a clause whose literals are all false at level 0.
+    fn refute_clause(
+        &mut self,
+        clause: ClauseRef,
+        first: Option<EndingRow>,
+    ) -> Result<LitList, CoreFault>
+        requires at { IsAtZero P.ParityEngine L.Sink self.old [] }
+        requires found { PropagationFinds self.old.state.now (P.state self.old.engine.now) (found.Clause clause) }
+        requires first { IsFirstOf P.ParityEngine self.old first }
+        ensures { TellsRefutation L.Sink self.old result self.new }
+    {
+        match conflict_clause(self.log, self.state, self.engine, Found::Clause(clause))? {
+            Conclusion::Clause(conflict) => self.refute_by(conflict, first),
+            Conclusion::Ending(_) => unreachable!(),
+        }
+    }
+
+    /// Ends the log by a conflict at level 0. No assumed literal fails.
+    fn refute(&mut self, found: Found) -> Result<LitList, CoreFault>
+        requires at { IsAtZero P.ParityEngine L.Sink self.old [] }
+        requires found { PropagationFinds self.old.state.now (P.state self.old.engine.now) found }
+        requires conflict { found ≢ Quiet }
+        ensures { TellsRefutation L.Sink self.old result self.new }
+    {
+        let zero = LevelZero {
+            alloc: self.log.alloc,
+            formula: self.log.formula,
+            state: self.state,
+            engine: self.engine,
+        };
+        let first = zero.first_ending()?;
+        match found {
+            Found::Clause(clause) => self.refute_clause(clause, first),
+            Found::Row(row) => self.refute_row(row, first),
+            Found::Quiet => unreachable!(),
+        }
     }
 }
 
-/// Ends the log by a row that is not met at level 0, where its own clause is the first that would end it before.
-fn refute_ending<P: ParityEngine, L: Sink<Item = LogEvent>>(
-    log: &mut SearchLog<L>,
-    state: &SearchState,
-    engine: &P,
-    marks: &mut Marks,
-    reason: ReasonOf,
-) -> Result<LitList, CoreFault>
-    requires stands { Stands P.ParityEngine L.Sink log.old state.now engine.now [] }
-    requires none { IsFirst log.old.formula.now.constraints state.now (P.state engine.now) None }
-    requires reason { IsReason (P.state engine.now).parities state.now.trail None reason }
-    requires ending { IsTrue (is_ending log.old.formula.now.constraints reason.clause) }
-    requires level { state.now.trail.level ≡ 0 }
-    requires clear { AreClear marks.old }
-    requires going { HasNotFailed L.Sink log.old }
-    ensures ends { TellsEnd L.Sink log.old state.now log.new result }
-    ensures none { IfOk result (λ failed. failed ≡ []) }
-    ensures clear { OnOk result (AreClear marks.new) }
-{
-    let mut rows = Vec::new(log.alloc);
-    let first = None;
-    let traced = trace_all(log, state, engine, &reason.clause, &first, &mut rows, marks)?;
-    let hints = IntList::from_vec(hints_of_resolved(log.alloc, &traced.resolved)?);
-    let count = rows.len();
-    let ending = end_of_refuted(log.alloc, log.formula, state, reason, &hints, count)?;
-    tell_ending(log, state, ending)
-}
-
-/// Ends the log by a row that is not met at level 0, where no other row's clause would end it before.
-fn refute_row_alone<P: ParityEngine, L: Sink<Item = LogEvent>>(
-    log: &mut SearchLog<L>,
-    state: &SearchState,
-    engine: &P,
-    marks: &mut Marks,
-    reason: ReasonOf,
-) -> Result<LitList, CoreFault>
-    requires stands { Stands P.ParityEngine L.Sink log.old state.now engine.now [] }
-    requires reason { IsReason (P.state engine.now).parities state.now.trail None reason }
-    requires none { IsFirst log.old.formula.now.constraints state.now (P.state engine.now) None }
-    requires level { state.now.trail.level ≡ 0 }
-    requires clear { AreClear marks.old }
-    requires going { HasNotFailed L.Sink log.old }
-    ensures ends { TellsEnd L.Sink log.old state.now log.new result }
-    ensures none { IfOk result (λ failed. failed ≡ []) }
-    ensures clear { OnOk result (AreClear marks.new) }
-{
-    if log.formula.is_ending(reason.clause.as_slice()) {
-        return refute_ending(log, state, engine, marks, reason);
-    }
-    let conflict = told_row(log, state, engine, reason)?;
-    refute_told(log, state, engine, marks, conflict)
-}
-
-/// Ends the log by a row that is not met at level 0, where this row is the first one whose clause would end it before.
-fn refute_row_beside<P: ParityEngine, L: Sink<Item = LogEvent>>(
-    log: &mut SearchLog<L>,
-    state: &SearchState,
-    engine: &P,
-    marks: &mut Marks,
-    reason: ReasonOf,
-    first: Option<EndingRow>,
-) -> Result<LitList, CoreFault>
-    requires stands { Stands P.ParityEngine L.Sink log.old state.now engine.now [] }
-    requires reason { IsReason (P.state engine.now).parities state.now.trail None reason }
-    requires first { IsFirst log.old.formula.now.constraints state.now (P.state engine.now) first }
-    requires some { IsSome first }
-    requires level { state.now.trail.level ≡ 0 }
-    requires clear { AreClear marks.old }
-    requires going { HasNotFailed L.Sink log.old }
-    ensures ends { TellsEnd L.Sink log.old state.now log.new result }
-    ensures none { IfOk result (λ failed. failed ≡ []) }
-    ensures clear { OnOk result (AreClear marks.new) }
-{
-    let told = going_on(log.alloc, log.formula, state, engine, &first, reason, None)?;
-    let conflict = told_row(log, state, engine, told)?;
-    refute_by(log, state, engine, marks, conflict, first)
-}
-
-/// Ends the log by a row that is not met at level 0.
-fn refute_row<P: ParityEngine, L: Sink<Item = LogEvent>>(
-    log: &mut SearchLog<L>,
-    state: &SearchState,
-    engine: &P,
-    marks: &mut Marks,
-    row: Row,
-    first: Option<EndingRow>,
-) -> Result<LitList, CoreFault>
-    requires stands { Stands P.ParityEngine L.Sink log.old state.now engine.now [] }
-    requires clash { IsClash (P.state engine.now) row }
-    requires first { IsFirst log.old.formula.now.constraints state.now (P.state engine.now) first }
-    requires level { state.now.trail.level ≡ 0 }
-    requires clear { AreClear marks.old }
-    requires going { HasNotFailed L.Sink log.old }
-    ensures ends { TellsEnd L.Sink log.old state.now log.new result }
-    ensures none { IfOk result (λ failed. failed ≡ []) }
-    ensures clear { OnOk result (AreClear marks.new) }
-{
-    let reason = reason_clause(log.alloc, engine, row, None, &state.trail)?;
-    match first {
-        Some(row) => refute_row_beside(log, state, engine, marks, reason, Some(row)),
-        None => refute_row_alone(log, state, engine, marks, reason),
-    }
-}
-
-/// Ends the log by a clause whose literals are all false at level 0.
-fn refute_clause<P: ParityEngine, L: Sink<Item = LogEvent>>(
-    log: &mut SearchLog<L>,
-    state: &SearchState,
-    engine: &P,
-    marks: &mut Marks,
-    clause: ClauseRef,
-    first: Option<EndingRow>,
-) -> Result<LitList, CoreFault>
-    requires stands { Stands P.ParityEngine L.Sink log.old state.now engine.now [] }
-    requires found { PropagationFinds state.now (P.state engine.now) (found.Clause clause) }
-    requires first { IsFirst log.old.formula.now.constraints state.now (P.state engine.now) first }
-    requires level { state.now.trail.level ≡ 0 }
-    requires clear { AreClear marks.old }
-    requires going { HasNotFailed L.Sink log.old }
-    ensures ends { TellsEnd L.Sink log.old state.now log.new result }
-    ensures none { IfOk result (λ failed. failed ≡ []) }
-    ensures clear { OnOk result (AreClear marks.new) }
-{
-    match conflict_clause(log, state, engine, Found::Clause(clause))? {
-        Conclusion::Clause(conflict) => refute_by(log, state, engine, marks, conflict, first),
-        Conclusion::Ending(_) => unreachable!(),
-    }
-}
-
-/// Ends the log by a conflict at level 0. No assumed literal fails.
-pub(crate) fn refute<P: ParityEngine, L: Sink<Item = LogEvent>>(
+/// Ends the log by a conflict at level 0, by an analyser of these. No assumed literal fails.
+pub(crate) fn refute_conflict<P: ParityEngine, L: Sink<Item = LogEvent>>(
     log: &mut SearchLog<L>,
     state: &SearchState,
     engine: &P,
     marks: &mut Marks,
     found: Found,
 ) -> Result<LitList, CoreFault>
-    requires stands { Stands P.ParityEngine L.Sink log.old state.now engine.now [] }
+    requires ready { CanAnalyse P.ParityEngine L.Sink log.old state.now engine.now marks.old [] }
+    requires level { state.now.trail.level ≡ 0 }
     requires found { PropagationFinds state.now (P.state engine.now) found }
     requires conflict { found ≢ Quiet }
-    requires level { state.now.trail.level ≡ 0 }
-    requires clear { AreClear marks.old }
-    requires going { HasNotFailed L.Sink log.old }
     ensures ends { TellsEnd L.Sink log.old state.now log.new result }
     ensures none { IfOk result (λ failed. failed ≡ []) }
     ensures clear { OnOk result (AreClear marks.new) }
 {
-    let first = first_ending(log.alloc, log.formula, state, engine)?;
-    match found {
-        Found::Clause(clause) => refute_clause(log, state, engine, marks, clause, first),
-        Found::Row(row) => refute_row(log, state, engine, marks, row, first),
-        Found::Quiet => unreachable!(),
-    }
+    let mut analyser = Analyser {
+        log,
+        state,
+        engine,
+        marks,
+    };
+    analyser.refute(found)
 }

@@ -1,5 +1,7 @@
 use Rattle.std.proofs.Common.{ap, subst, IfOk, rules, arith}
+use Rattle.conflict_learn.specs.Faults.{fault_in}
 use Rattle.conflict_learn.specs.Final.{IsFinal}
+use Rattle.cdcl_search.specs.Logs.{GoesOn}
 use Rattle.cdcl_search.specs.Sources.{IsSourcedBy}
 use Rattle.cdcl_search.proofs.Feeding.{trail_is_short}
 use Rattle.cdcl_search.proofs.Outcomes.{on_ok}
@@ -12,15 +14,19 @@ pub analyse_final-requires-clause-room : goal.analyse_final-requires-clause-room
 analyse_final-requires-clause-room g c =
     let few = c.requires.few_rows in
     let within = c.requires.fails.1.within in
-    let short = trail_is_short c.args.log.now.formula.now c.args.state.now (g.P.ParityEngine.state c.args.engine.now) c.args.rows.now.items (g.L.Sink.items c.args.log.now.sink.now) c.requires.stands in
+    let short = trail_is_short c.args.log.now.formula.now c.args.state.now (g.P.ParityEngine.state c.args.engine.now) c.args.rows.now.items (g.L.Sink.items c.args.log.now.sink.now) c.requires.ready.stands in
     omega (arith, few, short, within)
 
-pub returns-clause-stands : goal.returns-clause-stands
-returns-clause-stands g c =
+pub returns-clause-on : goal.returns-clause-on
+returns-clause-on g c =
     let new = c.analyse_final.new.source in
     let loans = c.analyse_final.ensures.goes_on.0 in
-    stands_at g.L.Sink.items c.analyse_final.result c.args.state.now new.state.now (g.P.ParityEngine.state c.args.engine.now) (g.P.ParityEngine.state new.engine.now) new.rows.now.items c.rows-1.given.0.items new.log.now c.log-1.given.0 loans.state
-    (ap g.P.ParityEngine.state loans.engine) (search rules) (search rules) (on_ok _ c.analyse_final.result c.analyse_final.ensures.ready (λ r. r.0))
+    record {
+      stands = stands_at g.L.Sink.items c.analyse_final.result c.args.state.now new.state.now (g.P.ParityEngine.state c.args.engine.now) (g.P.ParityEngine.state new.engine.now) new.rows.now.items c.rows-1.given.0.items new.log.now c.log-1.given.0 loans.state
+          (ap g.P.ParityEngine.state loans.engine) (search rules) (search rules) (on_ok _ c.analyse_final.result c.analyse_final.ensures.ready (λ r. r.0));
+      clear = c.analyse_final.ensures.clear;
+      log = subst (GoesOn g.L.Sink c.args.log.now (fault_in c.analyse_final.result)) (search rules) c.analyse_final.ensures.goes_on.1;
+    }
 
 pub returns-clause-left : goal.returns-clause-left
 returns-clause-left g c = λ n fails.

@@ -7,7 +7,7 @@ use Rattle.std.specs.List.{All}
 use Rattle.std.proofs.lemmas.Result.{err_from_is_err_and}
 use Rattle.xor_recover.specs.Finds.{IsJudgedRight}
 use Rattle.cdcl_search.specs.GoingOn.{log_rests, log_stops, log_then}
-use Rattle.cdcl_core.specs.Given.{AreEngines, HasGiven}
+use Rattle.cdcl_core.specs.Given.{AreEngines, HasGiven, IsRightFind}
 use Rattle.cdcl_core.proofs.GivenLaws.{begun_has_given, engines_are, one_find_more, parities_found}
 use Rattle.cdcl_core.proofs.OriginalLaws.{both_kinds}
 use Rattle.cdcl_core.proofs.recovering.all_parities.Goals as goal
@@ -54,25 +54,18 @@ tell_find-requires-clause-few g c = subst (λ (f : Problem). length f.constraint
 of_find : (P : FoundParity → Type 0) (found finds : List FoundParity) (place : ℕ) (find : FoundParity) → finds ≡ found → place < length finds → find ≡ get_or finds place find → All P found → P find
 of_find P found finds place find is less read all = subst P (sym read) (subst (All P) (sym is) all place find less)
 
-pub tell_find-requires-clause-within : goal.tell_find-requires-clause-within
-tell_find-requires-clause-within g c =
+pub tell_find-requires-clause-find : goal.tell_find-requires-clause-find
+tell_find-requires-clause-find g c =
     let formula = c.args.log.now.formula.now in
     let finds = c.into_vec-finds.result.items in
     let place = c.loop-place.place in
     let find = c.index.result.now in
     let less : place < length finds = (let less = c.loop-place-test.true in let end = c.len-place-end.ensures in let ok = c.into_vec-finds.result.ok.0 in omega (arith, less, end, ok)) in
-    subst (λ (f : Problem). AreWithin f.variables find.parity) (sym c.loop-place.invariant.log.formula)
-    (of_find (λ f. AreWithin formula.variables f.parity) c.in_ok-recover.field-0 finds place find c.into_vec-finds.ensures less (get_or_read finds place _ less c.index.ensures find) c.in_ok-recover.ensures.within)
-
-pub tell_find-requires-clause-judged : goal.tell_find-requires-clause-judged
-tell_find-requires-clause-judged g c =
-    let formula = c.args.log.now.formula.now in
-    let finds = c.into_vec-finds.result.items in
-    let place = c.loop-place.place in
-    let find = c.index.result.now in
-    let less : place < length finds = (let less = c.loop-place-test.true in let end = c.len-place-end.ensures in let ok = c.into_vec-finds.result.ok.0 in omega (arith, less, end, ok)) in
-    subst (λ f. IsJudgedRight f find) (sym c.loop-place.invariant.log.formula)
-    (of_find (IsJudgedRight formula) c.in_ok-recover.field-0 finds place find c.into_vec-finds.ensures less (get_or_read finds place _ less c.index.ensures find) c.in_ok-recover.ensures.judged)
+    let read = get_or_read finds place _ less c.index.ensures find in
+    subst (λ f. IsRightFind f find) (sym c.loop-place.invariant.log.formula) (record {
+      within = of_find (λ f. AreWithin formula.variables f.parity) c.in_ok-recover.field-0 finds place find c.into_vec-finds.ensures less read c.in_ok-recover.ensures.within;
+      judged = of_find (IsJudgedRight formula) c.in_ok-recover.field-0 finds place find c.into_vec-finds.ensures less read c.in_ok-recover.ensures.judged;
+    })
 
 pub returns-in_err-recover : goal.returns-in_err-recover
 returns-in_err-recover g c =

@@ -11,7 +11,7 @@ use Rattle.std.proofs.lemmas.Result.{err_from_is_err_and}
 use Rattle.cdcl_core.proofs.recovering.tell_find.Goals as goal
 
 pub step_of-requires-clause-clauses : goal.step_of-requires-clause-clauses
-step_of-requires-clause-clauses g c = judged_are_ids c.args.log.now.formula.now c.args.find.now c.requires.few c.requires.judged
+step_of-requires-clause-clauses g c = judged_are_ids c.args.log.now.formula.now c.args.find.now c.requires.few c.requires.find.judged
 
 pub tell_step-requires-clause-right : goal.tell_step-requires-clause-right
 tell_step-requires-clause-right g c =
@@ -22,7 +22,7 @@ tell_step-requires-clause-right g c =
     let step = ParityOfClauses (length own + 1) (integers_of find.parity) find.clauses in
     let is : c.in_ok-step.step ≡ step = c.in_ok-step.ensures.is ∙ ap (λ n. ParityOfClauses (n + 1) (integers_of find.parity) find.clauses) (let is = c.len.ensures in let ok = c.args.parities.now.ok.0 in let count : c.len.result ≡ length own = omega (arith, is, ok) in count) in
     subst (λ st. IsLeft formula (with_events (Step st ∷ []) told)) (sym is)
-    (given_is_left formula (own ++ find.parity ∷ []) (with_events (Step step ∷ []) told) (find_has_given formula own told c.requires.given find c.requires.within c.requires.judged))
+    (given_is_left formula (own ++ find.parity ∷ []) (with_events (Step step ∷ []) told) (find_has_given formula own told c.requires.given find c.requires.find.within c.requires.find.judged))
 
 pub returns-clause-given : goal.returns-clause-given
 returns-clause-given g c =
@@ -34,7 +34,7 @@ returns-clause-given g c =
     let is : c.in_ok-step.step ≡ step = c.in_ok-step.ensures.is ∙ ap (λ n. ParityOfClauses (n + 1) (integers_of find.parity) find.clauses) (let is = c.len.ensures in let ok = c.args.parities.now.ok.0 in let count : c.len.result ≡ length own = omega (arith, is, ok) in count) in
     let more : c.push.new.self.items ≡ own ++ find.parity ∷ [] = c.in_ok-push.ensures.items ∙ ap (λ x. own ++ x ∷ []) (c.in_ok-parity.ensures ∙ c.as_slice.ensures) in
     let has = holds_told (λ f t. HasGiven f (own ++ find.parity ∷ []) t) (Step step ∷ []) g.L.Sink c.args.log.now _ c.tell_step.new.log c.in_ok-tell_step.ensures.log
-    (c.in_ok-tell_step.ensures.told ∙ ap (λ st. with_events (Step st ∷ []) told) is) (find_has_given formula own told c.requires.given find c.requires.within c.requires.judged) in
+    (c.in_ok-tell_step.ensures.told ∙ ap (λ st. with_events (Step st ∷ []) told) is) (find_has_given formula own told c.requires.given find c.requires.find.within c.requires.find.judged) in
     subst (λ ps. HasGiven c.tell_step.new.log.formula.now ps (g.L.Sink.items c.tell_step.new.log.sink.now)) (sym more) has
 
 pub returns-clause-one_more : goal.returns-clause-one_more

@@ -1,4 +1,4 @@
-use Rattle.std.proofs.Common.{sym, subst, ◌++◌, append-nil, arith}
+use Rattle.std.proofs.Common.{sym, subst, ◌+◌, ◌++◌, append-nil, arith}
 use Rattle.std.proofs.lemmas.List.{take_all}
 use Rattle.cdcl_search.specs.Tells.{as_events, AreStepsOf}
 use Rattle.cdcl_core.specs.Shortening.{unit_parity_events}

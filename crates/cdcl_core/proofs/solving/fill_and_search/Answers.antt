@@ -8,15 +8,13 @@ use Rattle.cdcl_core.proofs.solving.fill_and_search.Goals as goal
 pub search-requires-clause-going : goal.search-requires-clause-going
 search-requires-clause-going g c = c.in_ok-engine.ensures.log.failed ∙ c.requires.going
 
-pub returns-in-Some-clause-log : goal.returns-in-Some-clause-log
-returns-in-Some-clause-log g c = log_then g.L.Sink g.met.L.Sink.keeps_on _ c.start.new.log _ _ c.in_ok-engine.ensures.log c.search.ensures.log
-
 -- the clauses of the formula were filled into a search that never tidies
-pub returns-in-Some-clause-answers : goal.returns-in-Some-clause-answers
-returns-in-Some-clause-answers g c = subst (λ b. IfOk c.search.result (λ a. IsRightOutcomeIn b c.search.new.log.formula.now c.args.budget (g.L.Sink.items c.search.new.log.sink.now) a)) (c.start.ensures.tidies ∙ c.in_ok-fill.ensures.never_tidies) c.search.ensures.answers
-
-pub returns-in-Some-clause-settled : goal.returns-in-Some-clause-settled
-returns-in-Some-clause-settled g c = λ s. subst (λ b. IfOk c.search.result (λ a. IsSettledBy b c.search.new.log.formula.now 1 (g.L.Sink.items c.search.new.log.sink.now) a)) (c.start.ensures.tidies ∙ c.in_ok-fill.ensures.never_tidies) (c.search.ensures.settled s)
+pub returns-in-Some : goal.returns-in-Some
+returns-in-Some g c = record {
+  answers = subst (λ b. IfOk c.search.result (λ a. IsRightOutcomeIn b c.search.new.log.formula.now c.args.budget (g.L.Sink.items c.search.new.log.sink.now) a)) (c.start.ensures.tidies ∙ c.in_ok-fill.ensures.never_tidies) c.search.ensures.answers;
+  settled = λ s. subst (λ b. IfOk c.search.result (λ a. IsSettledBy b c.search.new.log.formula.now 1 (g.L.Sink.items c.search.new.log.sink.now) a)) (c.start.ensures.tidies ∙ c.in_ok-fill.ensures.never_tidies) (c.search.ensures.settled s);
+  log = log_then g.L.Sink g.met.L.Sink.keeps_on _ c.start.new.log _ _ c.in_ok-engine.ensures.log c.search.ensures.log;
+}
 
 pub returns-in-None : goal.returns-in-None
 returns-in-None g c =

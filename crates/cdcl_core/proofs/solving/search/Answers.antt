@@ -1,8 +1,9 @@
-use Rattle.std.proofs.Common.{◌≤◌, ◌∙◌, sym, subst}
+use Rattle.std.proofs.Common.{◌≡◌, ◌≤◌, ◌∙◌, sym, subst, rules}
 use Rattle.cx_base.specs.declared.literal.TheConstants.{MAX_VARIABLE}
 use Rattle.cdcl_core.proofs.RaisedScores.{order_raised}
 use Rattle.cdcl_search.specs.GoingOn.{log_stops}
 use Rattle.std.proofs.lemmas.Result.{err_from_is_err_and}
+use Rattle.cdcl_core.specs.Results.{AnswersTo}
 use Rattle.cdcl_core.proofs.solving.search.Goals as goal
 
 pub prefer_free-requires-clause-few : goal.prefer_free-requires-clause-few
@@ -27,6 +28,11 @@ search_in_rounds-requires-clause-begins g c =
       level = begins.level;
       none = begins.none;
     }
+
+pub returns : goal.returns
+returns g c =
+    let same : c.log-1.given.0 ≡ c.search_in_rounds.new.self.log.now = search rules in
+    subst (AnswersTo g.L.Sink c.args.state.now.tidies c.args.budget c.args.log.now c.search_in_rounds.result) (sym same) c.search_in_rounds.ensures.answers
 
 pub returns-in_err-prefer_free : goal.returns-in_err-prefer_free
 returns-in_err-prefer_free g c =

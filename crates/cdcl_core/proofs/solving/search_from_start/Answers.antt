@@ -12,10 +12,14 @@ all_parities-requires-clause-going g c = c.in_ok-tell_originals.ensures.log.fail
 pub fill_and_search-requires-clause-going : goal.fill_and_search-requires-clause-going
 fill_and_search-requires-clause-going g c = c.in_ok-parities.ensures.log.failed ∙ c.in_ok-tell_originals.ensures.log.failed ∙ c.requires.going
 
-pub returns-clause-log : goal.returns-clause-log
-returns-clause-log g c =
+pub returns : goal.returns
+returns g c =
     let given = log_then g.L.Sink g.met.L.Sink.keeps_on _ c.tell_originals.new.log _ _ c.in_ok-tell_originals.ensures.log c.in_ok-parities.ensures.log in
-    log_then g.L.Sink g.met.L.Sink.keeps_on _ c.all_parities.new.log _ _ given c.fill_and_search.ensures.log
+    record {
+      answers = c.fill_and_search.ensures.answers;
+      settled = c.fill_and_search.ensures.settled;
+      log = log_then g.L.Sink g.met.L.Sink.keeps_on _ c.all_parities.new.log _ _ given c.fill_and_search.ensures.log;
+    }
 
 pub returns-in_err-tell_originals : goal.returns-in_err-tell_originals
 returns-in_err-tell_originals g c =
@@ -33,8 +37,14 @@ returns-in_err-filled g c =
     let fault = err_from_is_err_and c.from_residual-in_err-filled.result c.from_residual-in_err-filled.ensures.1 in
     rw (fault.1, fault.2) (record { answers = tt; settled = λ s. tt; log = log_then g.L.Sink g.met.L.Sink.keeps_on _ c.all_parities.new.log _ _ given (log_stops g.L.Sink g.met.L.Sink.keeps_itself c.all_parities.new.log) })
 
-pub returns-in-Some-clause-answers : goal.returns-in-Some-clause-answers
-returns-in-Some-clause-answers g c = subst (Refutes c.tell_originals.new.log.formula.now c.args.budget (g.L.Sink.items c.tell_originals.new.log.sink.now)) (search rules) (clash_refutes c.tell_originals.new.log.formula.now c.in-Some.variable c.args.budget c.requires.budget.0 (rw c.in-Some.is at c.clash.ensures.least) (sym c.clash.ensures.some ∙ ap is_some c.in-Some.is) (g.L.Sink.items c.tell_originals.new.log.sink.now) c.in_ok-tell_originals.ensures.begun)
-
-pub returns-in-Some-clause-settled : goal.returns-in-Some-clause-settled
-returns-in-Some-clause-settled g c = λ s. (subst (Refutes c.tell_originals.new.log.formula.now 1 (g.L.Sink.items c.tell_originals.new.log.sink.now)) (search rules) (clash_refutes c.tell_originals.new.log.formula.now c.in-Some.variable 1 (omega arith) (rw c.in-Some.is at c.clash.ensures.least) (sym c.clash.ensures.some ∙ ap is_some c.in-Some.is) (g.L.Sink.items c.tell_originals.new.log.sink.now) c.in_ok-tell_originals.ensures.begun), unsat_is_known _)
+pub returns-in-Some : goal.returns-in-Some
+returns-in-Some g c =
+    let told = g.L.Sink.items c.tell_originals.new.log.sink.now in
+    let formula = c.tell_originals.new.log.formula.now in
+    let clash = sym c.clash.ensures.some ∙ ap is_some c.in-Some.is in
+    let least = rw c.in-Some.is at c.clash.ensures.least in
+    record {
+      answers = subst (Refutes formula c.args.budget told) (search rules) (clash_refutes formula c.in-Some.variable c.args.budget c.requires.budget.0 least clash told c.in_ok-tell_originals.ensures.begun);
+      settled = λ s. (subst (Refutes formula 1 told) (search rules) (clash_refutes formula c.in-Some.variable 1 (omega arith) least clash told c.in_ok-tell_originals.ensures.begun), unsat_is_known _);
+      log = c.in_ok-tell_originals.ensures.log;
+    }

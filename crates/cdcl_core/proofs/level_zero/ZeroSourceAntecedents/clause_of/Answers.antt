@@ -1,41 +1,34 @@
-use Rattle.std.proofs.Common.{◌∙◌, refl, sym, ap, subst, arith}
-use Rattle.cx_base.specs.Problem.{Problem}
-use Rattle.cdcl_core.specs.Refuting.{IsFirst}
-use Rattle.cdcl_core.proofs.BesideLaws.{held_grows}
+use Rattle.std.proofs.Common.{ap, arith, length}
+use Rattle.std.proofs.lemmas.Result.{err_from_is_err_and}
 use Rattle.cdcl_core.proofs.level_zero.ZeroSourceAntecedents.clause_of.Goals as goal
 
-pub clause_at_zero-requires-clause-first : goal.clause_at_zero-requires-clause-first
-clause_at_zero-requires-clause-first g c = c.requires.ready.1
-
-pub clause_at_zero-requires-clause-going : goal.clause_at_zero-requires-clause-going
-clause_at_zero-requires-clause-going g c = c.requires.ready.2
-
-pub returns-in-Ok : goal.returns-in-Ok
-returns-in-Ok g c =
-    let e = c.in-Ok.ensures in
+pub returns : goal.returns
+returns g c =
+    let e = c.in_ok-hinted.ensures in
     record {
-      trail = refl;
-      held = held_grows c.args.self.now.state.now c.args.self.now.rows.now.items c.clause_at_zero.new.rows.items c.args.self.now.first.now e.grows;
-      clause = e.held;
-      implied = e.implied;
-      ready = (e.stands_on.stands, subst (λ (f : Problem). IsFirst f.constraints c.args.self.now.state.now (g.P.ParityEngine.state c.args.self.now.engine.now) c.args.self.now.first.now) (sym e.stands_on.log.formula) c.requires.ready.1, e.stands_on.log.failed ∙ c.requires.ready.2);
-      reach = refl;
-      room = omega (arith, e.one, ap (λ f. f.variables) e.stands_on.log.formula);
-      faults = e.stands_on.log.counts;
-      goes_on = (record { state = refl; engine = refl; log = refl; rows = refl; first = refl }, e.stands_on.log);
+      trail = ap (λ k. k.trail) e.on.lent.state;
+      held = e.more.grows;
+      clause = e.clause.held;
+      implied = e.clause.implied;
+      ready = e.on.ready;
+      reach = ap (λ k. length k.trail.entries) e.on.lent.state;
+      room = omega (arith, e.more.one, ap (λ f. f.variables) e.on.log.formula);
+      faults = e.on.log.counts;
+      goes_on = (e.on.lent, e.on.log);
     }
 
-pub returns-in-Err : goal.returns-in-Err
-returns-in-Err g c =
-    let e = c.in-Err.ensures in
-    record {
-      trail = refl;
-      held = held_grows c.args.self.now.state.now c.args.self.now.rows.now.items c.clause_at_zero.new.rows.items c.args.self.now.first.now e.grows;
+pub returns-in_err-hinted : goal.returns-in_err-hinted
+returns-in_err-hinted g c =
+    let fault = err_from_is_err_and c.from_residual.result c.from_residual.ensures.1 in
+    let e = c.in_err-hinted.ensures in
+    rw (fault.1, fault.2) (record {
+      trail = ap (λ k. k.trail) e.on.lent.state;
+      held = e.more.grows;
       clause = tt;
       implied = tt;
       ready = tt;
-      reach = refl;
+      reach = ap (λ k. length k.trail.entries) e.on.lent.state;
       room = tt;
-      faults = e.stands_on.log.counts;
-      goes_on = (record { state = refl; engine = refl; log = refl; rows = refl; first = refl }, e.stands_on.log);
-    }
+      faults = e.on.log.counts;
+      goes_on = (e.on.lent, e.on.log);
+    })

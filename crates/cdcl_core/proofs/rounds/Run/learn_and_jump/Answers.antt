@@ -1,0 +1,72 @@
+use Rattle.std.proofs.Common.{refl, sym, subst, arith}
+use Rattle.cx_base.specs.Problem.{Problem}
+use Rattle.search_policy.specs.Assuming.{AreApart, KeepsAssumptions}
+use Rattle.cdcl_core.proofs.FailLaws.{above_is_free}
+use Rattle.cdcl_core.specs.Results.{IsOpenWith}
+use Rattle.cdcl_core.proofs.Answering.{learned_log_is_open}
+use Rattle.cdcl_search.specs.GoingOn.{log_stops, log_then}
+use Rattle.std.proofs.lemmas.Result.{err_from_is_err_and}
+use Rattle.cdcl_core.proofs.rounds.Run.learn_and_jump.Goals as goal
+
+pub returns-then-self : goal.returns-then-self
+returns-then-self g c =
+    let r = c.in_ok-learned.learned in
+    let formula = c.learn.new.log.formula.now in
+    let told = g.L.Sink.items c.learn.new.log.sink.now in
+    record {
+      goes_on = record {
+        count = refl;
+        log = subst (λ n. IsOpenWith c.args.self.now.state.now.tidies formula n told) c.if-self.true
+            (learned_log_is_open formula c.args.self.now.state.now (g.P.ParityEngine.state c.args.self.now.engine.now) r.lits r.back_level told c.in_ok-learned.ensures.learned);
+      };
+      one_more = tt;
+      tidies = tt;
+      keeps = tt;
+      clear = c.in_ok-learned.ensures.clear;
+      log = c.in_ok-learned.ensures.log;
+      same = record { log = refl; state = refl; engine = refl; budget = refl };
+    }
+
+pub returns : goal.returns
+returns g c =
+    let one_more = c.in_ok-jump.ensures.counted in
+    let fewer = c.requires.searches.few.0 in
+    let other = c.if-self.false in
+    record {
+      goes_on = record {
+        stands = c.in_ok-jump.ensures.stands (g.L.Sink.items c.learn.new.log.sink.now) c.in_ok-learned.ensures.learned;
+        unbroken = c.in_ok-jump.ensures.unbroken;
+        fewer = omega (arith, one_more, fewer, other);
+      };
+      one_more = one_more;
+      tidies = c.in_ok-jump.ensures.tidies;
+      keeps = subst (λ (f : Problem). KeepsAssumptions f.constraints c.jump.new.assumptions c.jump.new.state.trail) (sym c.in_ok-learned.ensures.log.formula) (c.in_ok-jump.ensures.keeps c.args.self.now.log.now.formula.now.constraints c.requires.searches.keeps);
+      clear = c.in_ok-learned.ensures.clear;
+      log = c.in_ok-learned.ensures.log;
+      same = record { log = refl; state = refl; engine = refl; budget = refl };
+    }
+
+pub returns-in_err-learned : goal.returns-in_err-learned
+returns-in_err-learned g c =
+    let fault = err_from_is_err_and c.from_residual.result c.from_residual.ensures.1 in
+    rw (fault.1, fault.2) (record { goes_on = tt; one_more = tt; tidies = tt; keeps = tt; clear = tt; log = c.in_err-learned.ensures.log; same = record { log = refl; state = refl; engine = refl; budget = refl } })
+
+pub returns-in_err-jump : goal.returns-in_err-jump
+returns-in_err-jump g c =
+    let fault = err_from_is_err_and c.from_residual-in_err-jump.result c.from_residual-in_err-jump.ensures.1 in
+    rw (fault.1, fault.2) (record { goes_on = tt; one_more = tt; tidies = tt; keeps = tt; clear = tt; log = log_then g.L.Sink g.met.L.Sink.keeps_on _ c.learn.new.log _ _ c.in_ok-learned.ensures.log (log_stops g.L.Sink g.met.L.Sink.keeps_itself c.learn.new.log); same = record { log = refl; state = refl; engine = refl; budget = refl } })
+
+pub learn-requires-clause-ready : goal.learn-requires-clause-ready
+learn-requires-clause-ready g c = record { stands = c.requires.searches.stands; clear = c.requires.searches.clear; going = c.requires.searches.going }
+
+pub learn-requires-clause-may : goal.learn-requires-clause-may
+learn-requires-clause-may g c =
+    let keeps = c.requires.searches.keeps in
+    let checked = c.requires.checked in
+    record {
+      above = (let free = c.requires.free in omega (arith, free));
+      apart = subst (AreApart c.args.self.now.log.now.formula.now.constraints c.args.self.now.state.now.trail) checked keeps.apart;
+      free = above_is_free c.args.self.now.log.now.formula.now.constraints c.args.assumptions.now c.args.self.now.state.now.trail keeps c.requires.searches.stands.3.trail.follows.sound c.requires.free;
+      few = (let few = c.requires.searches.few.0 in let bound = c.requires.searches.few.1 in omega (arith, few, bound));
+      unsettled = c.requires.unsettled;
+    }
