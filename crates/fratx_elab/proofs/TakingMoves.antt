@@ -1,24 +1,17 @@
 -- Moves: judged in the log, the proof gains nothing, and the tables stay tied.
-use Rattle.std.proofs.Common.{◌≡◌, refl, sym, ap, ◌∙◌, subst, false, not, List, None, Ok}
-use Rattle.std.specs.List.{list_any}
-use Rattle.std.proofs.lemmas.Bool.{or_parts}
+use Rattle.std.proofs.Common.{◌≡◌, refl, sym, ap, ◌∙◌, subst, List, None, Ok}
 use Rattle.cx_base.specs.Problem.{Problem}
 use Rattle.cx_base.specs.declared.id_moves.IdMove.{IdMove}
 use Rattle.cx_base.specs.declared.steps.LogStep.TheVariants as log
 use Rattle.cx_semantics.specs.Chain.{HaveSame}
 use Rattle.cx_semantics.specs.Judging.{AllHold}
 use Rattle.cx_semantics.specs.LogRules.{moving}
-use Rattle.cx_semantics.specs.Moves.{names_twice, old_ids}
-use Rattle.cx_semantics.specs.Tables.{Table, Tables, is_live, move_clauses, move_parities}
+use Rattle.cx_semantics.specs.Tables.{Tables, move_clauses, move_parities}
 use Rattle.fratx_elab.specs.Names.{Naming, Names, move_names}
 use Rattle.fratx_elab.specs.Ties.{AreTied, HaveSameForm}
 use Rattle.fratx_elab.specs.Takes.{TakesLogStep, names_of}
 use Rattle.fratx_elab.specs.declared.state.State.{State}
 use Rattle.fratx_elab.proofs.MovedTies.{tied_moved}
-
--- right moves name no old id twice
-pub named_once : (table : Table) (moves : List IdMove) → AllHold (moving table moves) → names_twice (old_ids moves) ≡ false
-named_once table moves right = (or_parts (list_any (λ n. not (is_live table n)) (old_ids moves)) (names_twice (old_ids moves)) right.0).1
 
 module _ (formula : Problem) (old new : State) where
   tied_there : (tables proof : Tables) (names : Names) → new.live ≡ tables → names_of new ≡ names → AreTied formula tables proof names → AreTied formula new.live proof (names_of new)

@@ -1,6 +1,5 @@
 //! What stands for the ids of a log in its proof.
-ghost use Rattle.std.specs.Prelude.{◌≡◌, ◌≢◌, ◌≤◌, ◌<◌, ◌+◌, ℕ, ℤ, pos, nat_abs, true, false, IfOk, OnOk};
-ghost use Rattle.cx_semantics.specs.Moves.{names_twice, old_ids};
+ghost use Rattle.std.specs.Prelude.{◌≡◌, ◌≢◌, ◌≤◌, ◌<◌, ◌+◌, ℕ, ℤ, pos, nat_abs, true, IfOk, OnOk};
 ghost use Rattle.fratx_elab.specs.Names.{Naming, stands_for, first_naming, name_original, name_next, drop_name, move_names, StandForThemselves, StandForProofIds};
 
 use crate::own_ids::OwnIds;
@@ -212,19 +211,17 @@ impl Names {
         found
     }
 
-    /// What stood for each old id, none of which is named twice, stands for the new one from now on. After that ids are taken to stand
-    /// for others.
+    /// What stood for each old id stands for the new one from now on. After that ids are taken to stand for others.
     pub fn move_all(&mut self, moves: &[IdMove]) -> Result<(), AllocError>
-        requires { names_twice (old_ids moves.now) ≡ false }
         ensures { OnOk result (self.new ≡ move_names self.old moves.now) }
     {
         match &mut self.ids {
             Standing::Themselves(ids) => {
                 let mut numbers = ids.numbers(self.alloc, self.last)?;
-                numbers.move_apart(self.alloc, moves)?;
+                numbers.move_ids(self.alloc, moves)?;
                 self.ids = Standing::Numbered(numbers);
             }
-            Standing::Numbered(numbers) => numbers.move_apart(self.alloc, moves)?,
+            Standing::Numbered(numbers) => numbers.move_ids(self.alloc, moves)?,
         }
         Ok(())
     }

@@ -12,7 +12,7 @@ use Rattle.cx_semantics.proofs.MoveLaws.{AreThere}
 use Rattle.cx_semantics.specs.declared.cause.Cause.TheVariants.{NotLive, IdInUse}
 use Rattle.cx_semantics.specs.Judging.{refused_where}
 use Rattle.proof_rules.specs.Judges.{JudgesBy}
-use Rattle.proof_rules.specs.Moving.{values_for, taken_in_turn, meets_none, meets_some, moving_in}
+use Rattle.proof_rules.specs.Moving.{meets_none, meets_some, moving_in}
 use Rattle.proof_rules.specs.declared.refusal.JudgeRefusal.{JudgeRefusal}
 
 turned : (n k : ℕ) → nat_eq n k ≡ nat_eq k n
@@ -93,29 +93,6 @@ module _ {V : Type 0} where
       (meets_some_is first moves (put_if contents m.to (map_.get first m.from)) h.1
       ∙ ap (λ b. b || names_twice (new_ids moves)) (either _ (nat_eq m.to) (map_.contains_key contents) (some_after contents m.to (map_.get first m.from) h.0) (new_ids moves)))
       ∙ in_turn (map_.contains_key contents m.to) (list_any (nat_eq m.to) (new_ids moves)) (list_any (map_.contains_key contents) (new_ids moves)) (names_twice (new_ids moves))
-
-  -- what is under other ids stays when one goes
-  values_apart : (contents : map_.FinMap nat_cmp V) (n : ℕ) (moves : List IdMove) → list_any (nat_eq n) (old_ids moves) ≡ false → values_for (map_.remove contents n) moves ≡ values_for contents moves
-  values_apart contents n [] h = refl
-  values_apart contents n (m ∷ moves) h =
-      let p = or_parts (nat_eq n m.from) (list_any (nat_eq n) (old_ids moves)) h in
-      (λ i. (map_.get-remove nat_cmp_total contents n m.from ∙ ap (λ b. cond b None (map_.get contents m.from)) (unsigned_tied m.from n ∙ turned m.from n ∙ p.0)) i ∷ values_apart contents n moves p.1 i)
-
-  -- where each old id has something when its turn comes, it is what was there at first
-  pub taken_at_once : (moves : List IdMove) (contents : map_.FinMap nat_cmp V) → meets_none contents moves ≡ false → taken_in_turn contents moves ≡ values_for contents moves
-  taken_at_once [] contents h = refl
-  taken_at_once (m ∷ moves) contents h =
-      let rest = or_parts (not (map_.contains_key contents m.from)) (meets_none (map_.remove contents m.from) moves) h in
-      let once = or_parts (list_any (λ n. not (map_.contains_key contents n)) (old_ids (m ∷ moves))) (names_twice (old_ids (m ∷ moves))) (sym (meets_none_is (m ∷ moves) contents) ∙ h) in
-      let apart = or_parts (list_any (nat_eq m.from) (old_ids moves)) (names_twice (old_ids moves)) once.1 in
-      ap (λ values. map_.get contents m.from ∷ values) (taken_at_once moves (map_.remove contents m.from) rest.1 ∙ values_apart contents m.from moves apart.0)
-
-  -- and where no old id is named twice it is that too, or nothing
-  pub apart_at_once : (moves : List IdMove) (contents : map_.FinMap nat_cmp V) → names_twice (old_ids moves) ≡ false → taken_in_turn contents moves ≡ values_for contents moves
-  apart_at_once [] contents h = refl
-  apart_at_once (m ∷ moves) contents h =
-      let apart = or_parts (list_any (nat_eq m.from) (old_ids moves)) (names_twice (old_ids moves)) h in
-      ap (λ values. map_.get contents m.from ∷ values) (apart_at_once moves (map_.remove contents m.from) apart.1 ∙ values_apart contents m.from moves apart.0)
 
   module _ (contents : map_.FinMap nat_cmp V) (moves : List IdMove) (r : Bool) where
     abbrev first_test : Bool

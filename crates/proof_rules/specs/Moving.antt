@@ -13,11 +13,6 @@ module _ {V : Type 0} where
   abbrev pub values_for : map_.FinMap nat_cmp V → List IdMove → List (Option V)
   values_for contents moves = map (λ m. map_.get contents m.from) moves
 
-  -- what is under each old id when its turn comes
-  abbrev pub taken_in_turn : map_.FinMap nat_cmp V → List IdMove → List (Option V)
-  taken_in_turn contents [] = []
-  taken_in_turn contents (m ∷ moves) = map_.get contents m.from ∷ taken_in_turn (map_.remove contents m.from) moves
-
   -- nothing is under some old id when its turn comes
   abbrev pub meets_none : map_.FinMap nat_cmp V → List IdMove → Bool
   meets_none contents [] = false

@@ -1,8 +1,8 @@
 //! Ids that are moved at once: what is under the old ones is taken out, and then each value comes under its new id.
-ghost use Rattle.std.specs.Prelude.{◌≡◌, not, true, false, [], IfOk, OnOk};
+ghost use Rattle.std.specs.Prelude.{◌≡◌, not, true, IfOk, OnOk};
 ghost use Rattle.std.specs.FinMap as map;
 ghost use Rattle.std.specs.Ordering.{nat_cmp};
-ghost use Rattle.cx_semantics.specs.Moves.{old_ids, names_twice, without_ids, put_if, put_moved, moved};
+ghost use Rattle.cx_semantics.specs.Moves.{old_ids, without_ids, put_if, put_moved, moved};
 ghost use Rattle.proof_rules.specs.Judges.{JudgesBy};
 ghost use Rattle.proof_rules.specs.Moving.{values_for, meets_none, meets_some, moving_in};
 
@@ -47,45 +47,19 @@ fn take_out<V: Copy + Drop + Filler>(values: &mut IdMap<V>, moves: &[IdMove])
     }
 }
 
-/// Takes out what is under the old ids and lists it in order; false where nothing is under one of them when its turn comes.
-fn take_all_out<V: Copy + Drop + Filler>(
-    values: &mut IdMap<V>,
-    moves: &[IdMove],
-    found: &mut Vec<Option<V>>,
-) -> Result<bool, AllocError>
-    requires { found.old.items ≡ [] }
-    ensures judged { IfOk result (λ done. done ≡ not (meets_none values.old moves.now)) }
-    ensures out { IfOk result (λ done. done ≡ true → values.new ≡ without_ids values.old (old_ids moves.now)) }
-    ensures found { IfOk result (λ done. done ≡ true → found.new.items ≡ values_for values.old moves.now) }
+/// Takes out what is under the old ids; false where nothing is under one of them when its turn comes.
+fn take_all_out<V: Copy + Drop + Filler>(values: &mut IdMap<V>, moves: &[IdMove]) -> bool
+    ensures judged { result ≡ not (meets_none values.old moves.now) }
+    ensures out { result ≡ true → values.new ≡ without_ids values.old (old_ids moves.now) }
 {
-    found.reserve(moves.len())?;
     for place in 0..moves.len() {
         let id = moves[place].from;
         let value = values.take(id);
         if value.is_none() {
-            return Ok(false);
+            return false;
         }
-        found.push_reserved(value);
     }
-    Ok(true)
-}
-
-/// Takes out what is under the old ids, none of which is named twice, and lists it in order.
-fn take_each_out<V: Copy + Drop + Filler>(
-    values: &mut IdMap<V>,
-    moves: &[IdMove],
-    found: &mut Vec<Option<V>>,
-) -> Result<(), AllocError>
-    requires empty { found.old.items ≡ [] }
-    requires apart { names_twice (old_ids moves.now) ≡ false }
-    ensures out { OnOk result (values.new ≡ without_ids values.old (old_ids moves.now)) }
-    ensures found { OnOk result (found.new.items ≡ values_for values.old moves.now) }
-{
-    found.reserve(moves.len())?;
-    for place in 0..moves.len() {
-        found.push_reserved(values.take(moves[place].from));
-    }
-    Ok(())
+    true
 }
 
 /// Puts a value under this id, if there is one.
@@ -147,17 +121,6 @@ impl<V: Copy + Drop + Filler> IdMap<V> {
         put_in(self, moves, &found)
     }
 
-    /// Moves values under other ids, all at once, where no old id is named twice, which takes one look-up fewer for each. Where
-    /// nothing is under an old id, nothing comes under the new one.
-    pub fn move_apart(&mut self, alloc: Global, moves: &[IdMove]) -> Result<(), AllocError>
-        requires { names_twice (old_ids moves.now) ≡ false }
-        ensures { OnOk result (self.new ≡ moved self.old moves.now) }
-    {
-        let mut found = Vec::new(alloc);
-        take_each_out(self, moves, &mut found)?;
-        put_in(self, moves, &found)
-    }
-
     /// Moves values under other ids, all at once, where the rules of a move hold. After an error the map is spoilt.
     pub(crate) fn judge_and_move(
         &mut self,
@@ -167,8 +130,9 @@ impl<V: Copy + Drop + Filler> IdMap<V> {
         ensures judged { JudgesBy (moving_in self.old moves.now) result }
         ensures moved { OnOk result (self.new ≡ moved self.old moves.now) }
     {
-        let mut found = Vec::new(alloc);
-        if !take_all_out(self, moves, &mut found)? {
+        // A loop that only reads waits for many places at once, where the ids are far apart.
+        let found = values_of(alloc, self, moves)?;
+        if !take_all_out(self, moves) {
             return Err(JudgeRefusal::Wrong(Cause::NotLive));
         }
         if !put_all_in(self, moves, &found)? {

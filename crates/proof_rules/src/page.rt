@@ -198,7 +198,7 @@ fn filled_places<V: Drop + Filler>(alloc: Global) -> Result<Vec<V>, AllocError>
 {
     let mut places = Vec::with_capacity(alloc, PLACES as usize)?;
     for _ in 0..PLACES {
-        places.push(V::filler())?;
+        places.push_reserved(V::filler());
     }
     Ok(places)
 }

@@ -1,12 +1,6 @@
-use Rattle.std.proofs.Common.{◌≡◌, ◌∙◌, refl, sym, subst, false}
-use Rattle.cx_semantics.specs.Moves.{names_twice, old_ids}
-use Rattle.fratx_elab.proofs.TakingMoves.{named_once, takes_lent_clause_moves}
+use Rattle.std.proofs.Common.{refl}
+use Rattle.fratx_elab.proofs.TakingMoves.{takes_lent_clause_moves}
 use Rattle.fratx_elab.proofs.moving.move_clauses.Goals as goal
-
-pub move_all-requires : goal.move_all-requires
-move_all-requires c =
-    subst (λ moves. names_twice (old_ids moves) ≡ false) (c.as_slice.ensures ∙ sym c.as_slice-2.ensures)
-    (named_once c.args.state.now.live.clauses _ c.in_ok-judge_and_move.ensures.right)
 
 pub returns-clause-taken : goal.returns-clause-taken
 returns-clause-taken c = λ formula.
