@@ -79,7 +79,7 @@ impl ListLog {
 impl Sink for ListLog {
     type Item = LogEvent;
 
-    ghost use Rattle.std.specs.Prelude.{Some, None, false};
+    ghost use Rattle.std.specs.Prelude.{refl, Some, None, false};
 
     ghost items = { λ a. Some a };
 
@@ -120,7 +120,7 @@ impl Sink for ListLog {
 
     ghost are_items = { λ _. tt };
 
-    ghost gains_items = { λ _ _ _. tt };
+    ghost gains_items = { λ _ _ _. refl };
 
     ghost keeps_itself = { λ _. tt };
 

@@ -12,7 +12,7 @@ pub struct NoLog;
 impl Sink for NoLog {
     type Item = LogEvent;
 
-    ghost use Rattle.std.specs.Prelude.{None, false};
+    ghost use Rattle.std.specs.Prelude.{refl, None, false};
 
     ghost items = { λ _. None };
 
@@ -47,7 +47,7 @@ impl Sink for NoLog {
 
     ghost are_items = { λ _. tt };
 
-    ghost gains_items = { λ _ _ _. tt };
+    ghost gains_items = { λ _ _ _. refl };
 
     ghost keeps_itself = { λ _. tt };
 

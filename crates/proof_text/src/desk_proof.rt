@@ -121,7 +121,7 @@ impl<D: Desk> Sink for DeskProof<'_, D> {
 
     ghost are_items = { λ _. tt };
 
-    ghost gains_items = { λ _ _ _. tt };
+    ghost gains_items = { λ _ _ _. refl };
 
     ghost keeps_itself = { λ a. (refl, goes_itself a.failed (D.outside a.desk.now)) };
 

@@ -77,7 +77,7 @@ impl ListProof {
 impl Sink for ListProof {
     type Item = ProofStep;
 
-    ghost use Rattle.std.specs.Prelude.{Some, None, false};
+    ghost use Rattle.std.specs.Prelude.{refl, Some, None, false};
 
     ghost items = { λ a. Some a };
 
@@ -118,7 +118,7 @@ impl Sink for ListProof {
 
     ghost are_items = { λ _. tt };
 
-    ghost gains_items = { λ _ _ _. tt };
+    ghost gains_items = { λ _ _ _. refl };
 
     ghost keeps_itself = { λ _. tt };
 

@@ -1,5 +1,5 @@
 -- What a sink answers.
-use Rattle.std.specs.Prelude.{◌≡◌, ℕ, Bool, true, List, [], ◌∷◌, ◌++◌, map, Option, Some, option_map, IfSome, Result, Ok, Err, ⊤}
+use Rattle.std.specs.Prelude.{◌≡◌, ℕ, Bool, true, List, [], ◌∷◌, ◌++◌, map, Option, Some, None, option_map, IfSome, MatchOption, Result, Ok, Err, ⊤}
 use Rattle.step_text.specs.declared.sink.SinkFault.{SinkFault}
 use Rattle.step_text.specs.declared.sink.SinkFault.TheVariants.{Memory, Failed}
 use Rattle.cx_base.specs.Counts.{Rose}
@@ -17,9 +17,9 @@ with_tidy r told = option_map (λ all. all ++ tidy r ∷ []) told
 abbrev pub AreItemsOf : {I : Type 0} → Option (List (Line I)) → Option (List I) → Type 0
 AreItemsOf lines items = IfSome lines (λ all. items ≡ Some (items_of all))
 
--- where lines are told, no tidy line came to the earlier ones
+-- where lines are told, no tidy line came to the earlier ones; where none are told, none are told later
 abbrev pub GainsItems : {I : Type 0} → Option (List (Line I)) → Option (List (Line I)) → Type 0
-GainsItems {I = I} old new = IfSome old (λ before. (items : List I) × (new ≡ Some (before ++ map item items)))
+GainsItems {I = I} old new = MatchOption old (new ≡ None) (λ before. (items : List I) × (new ≡ Some (before ++ map item items)))
 
 -- the faults rose where the answer is a fault of writing, and otherwise stay
 abbrev pub SinkFaultsAs : {T : Type 0} → Result T SinkFault → ℕ → ℕ → Type 0
