@@ -19,5 +19,5 @@ mod units;
 
 pub use models::values_of;
 pub use propagation::Found;
-pub use searching::{Reached, search_on};
+pub use searching::{Reached, is_quiet, search_on, settle};
 pub use state::SearchState;

@@ -28,7 +28,7 @@ pub enum Reached {
 }
 
 /// Whether nothing more is forced, and nothing contradicts an assumed literal.
-fn is_quiet(reached: &Reached) -> bool
+pub fn is_quiet(reached: &Reached) -> bool
     ensures quiet { IsTrue result → reached.now ≡ at.Found Quiet }
     ensures other { IsFalse result → reached.now ≢ at.Found Quiet }
 {
@@ -40,7 +40,7 @@ fn is_quiet(reached: &Reached) -> bool
 }
 
 /// Implies what the clauses and the parities force, and looks for a literal that contradicts an assumed one. At level 0 the units are told.
-fn settle<P: ParityEngine, L: Sink<Item = LogEvent>>(
+pub fn settle<P: ParityEngine, L: Sink<Item = LogEvent>>(
     log: &mut SearchLog<L>,
     state: &mut SearchState,
     engine: &mut P,
