@@ -20,11 +20,11 @@ use Rattle.conflict_learn.specs.declared.fault.CoreFault.TheVariants.{Memory, Wr
 use Rattle.conflict_learn.specs.Faults.{CountsAs, fault_in}
 use Rattle.step_text.specs.declared.sink.Sink as sink
 use Rattle.cdcl_search.specs.declared.logs.SearchLog.{SearchLog}
-use Rattle.cdcl_search.specs.Logs.{GoesOn}
-use Rattle.cdcl_search.specs.Tells.{IsLeft, GivesUp, HaveLowIds, HasNoMark}
+use Rattle.cdcl_search.specs.Tells.{IsLeft, HaveLowIds, HasNoMark}
 use Rattle.cdcl_search.specs.Ties.{SearchStands}
 use Rattle.cdcl_core.specs.declared.solving.SearchOutcome.TheVariants.{Sat, Unsat, Unknown}
 use Rattle.cdcl_core.specs.Learning.{Learns}
+use Rattle.cdcl_core.specs.LogLines.{GivesUpIn, GoesOnIn}
 use Rattle.cdcl_core.specs.Results.{IsOpenWith, IsBoundedIn, IsFresh, RefutesIn}
 use Rattle.cdcl_core.proofs.OriginalLaws.{left_by}
 use Rattle.cdcl_core.proofs.FewAdditions.{search_is_bounded, learned_is_bounded}
@@ -71,20 +71,21 @@ pub fresh_has_no_mark : (told : Option (List LogEvent)) → IsFresh told → Has
 fresh_has_no_mark None fresh = tt
 fresh_has_no_mark (Some es) fresh = ap (filter_map mark_of) fresh
 
--- a log that went on from nothing has no mark, where the formula is settled with its recovered parities
-pub unmarked_by : {L : Type 0} (m : sink.Ghosts L LogEvent) (old new : SearchLog L) (why : Option CoreFault) → GoesOn m old why new → IsFresh (m.items old.sink.now) → SettledWithRecovered old.formula.now → HasNoMark (m.items new.sink.now)
-unmarked_by m old new why on fresh s = on.marks (subst SettledWithRecovered (sym on.formula) s) (fresh_has_no_mark (m.items old.sink.now) fresh)
+module _ {L : Type 0} {tidies : Bool} (m : sink.Ghosts L LogEvent) (old new : SearchLog L) where
+  -- a log that went on from nothing has no mark, where the formula is settled with its recovered parities
+  pub unmarked_by : (why : Option CoreFault) → GoesOnIn tidies m old why new → IsFresh (m.items old.sink.now) → SettledWithRecovered old.formula.now → HasNoMark (m.items new.sink.now)
+  unmarked_by why on fresh s = on.marks (subst SettledWithRecovered (sym on.formula) s) (fresh_has_no_mark (m.items old.sink.now) fresh)
 
--- the faults that a log counted, by its sink at the end
-pub counts_at : {L : Type 0} (m : sink.Ghosts L LogEvent) (old new : SearchLog L) (why : Option CoreFault) (at : L) → GoesOn m old why new → at ≡ new.sink.now → CountsAs why (m.faults old.sink.now) (m.faults at)
-counts_at m old new why at on same = subst (λ x. CountsAs why (m.faults old.sink.now) (m.faults x)) (sym same) on.counts
+  -- the faults that a log counted, by its sink at the end
+  pub counts_at : (why : Option CoreFault) (at : L) → GoesOnIn tidies m old why new → at ≡ new.sink.now → CountsAs why (m.faults old.sink.now) (m.faults at)
+  counts_at why at on same = subst (λ x. CountsAs why (m.faults old.sink.now) (m.faults x)) (sym same) on.counts
 
-pub gives_up_by : {L T : Type 0} (m : sink.Ghosts L LogEvent) (old new : SearchLog L) (r : Result T CoreFault) → GoesOn m old (fault_in r) new → IsLeft old.formula.now (m.items old.sink.now) → IfErr r (λ e. GivesUp new.formula.now (m.torn new.sink.now) (m.items new.sink.now) e)
-gives_up_by m old new (Ok x) on left = tt
-gives_up_by m old new (Err Memory) on left = on.right left
-gives_up_by m old new (Err Write) on left = (on.right left, on.tears refl)
+  pub gives_up_by : {T : Type 0} (r : Result T CoreFault) → GoesOnIn tidies m old (fault_in r) new → IsLeft old.formula.now (m.items old.sink.now) → IfErr r (λ e. GivesUpIn tidies m new.formula.now new.sink.now e)
+  gives_up_by (Ok x) on left = tt
+  gives_up_by (Err Memory) on left = on.right left
+  gives_up_by (Err Write) on left = (on.right left, on.tears refl)
 
-pub risen_by : {L T : Type 0} (m : sink.Ghosts L LogEvent) (old new : SearchLog L) (r : Result T CoreFault) → GoesOn m old (fault_in r) new → IfErr r (λ e. e ≡ Write → Rose (m.faults old.sink.now) (m.faults new.sink.now))
-risen_by m old new (Ok x) on = tt
-risen_by m old new (Err Memory) on = λ e. absurd (cc (e))
-risen_by m old new (Err Write) on = λ e. on.counts
+  pub risen_by : {T : Type 0} (r : Result T CoreFault) → GoesOnIn tidies m old (fault_in r) new → IfErr r (λ e. e ≡ Write → Rose (m.faults old.sink.now) (m.faults new.sink.now))
+  risen_by (Ok x) on = tt
+  risen_by (Err Memory) on = λ e. absurd (cc (e))
+  risen_by (Err Write) on = λ e. on.counts

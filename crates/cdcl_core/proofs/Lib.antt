@@ -19,6 +19,7 @@ pub mod RefutedLaws
 pub mod KnownLaws
 pub mod ConflictLaws
 pub mod Answering
+pub mod MarkCounts
 pub mod EndingLaws
 pub mod OriginalLaws
 pub mod GivenLaws
@@ -39,6 +40,7 @@ pub mod NarrowAnswers
 pub mod FewAdditions
 pub mod RaisedScores
 pub mod OnSchedule
+pub mod TidyTimes
 pub mod RunLaws
 pub mod TidiedClauses
 pub mod TidiedTies
@@ -47,3 +49,6 @@ pub mod TidyLogs
 pub mod TidyNow
 pub mod WaitingUnits
 pub mod TautologyLaws
+pub mod LogLineLaws
+pub mod CalmLines
+pub mod LinesInTime

@@ -4,7 +4,7 @@ use Rattle.std.specs.List.{sum}
 use Rattle.std.proofs.lemmas.List.{get_or_append_left, get_or-append-add}
 use Rattle.std.proofs.lemmas.List.Sums.{sum_by-append}
 use Rattle.search_policy.specs.Restarts.{IsLuby, IsDue}
-use Rattle.search_steps.specs.Schedule.{AreLuby, IsRestart}
+use Rattle.search_steps.specs.Schedule.{AreLuby, IsRestartAt}
 use Rattle.search_steps.proofs.ScheduleLaws.{luby_is_some, sum_is_long}
 use Rattle.cdcl_core.specs.declared.schedule.Schedule.{Schedule}
 use Rattle.cdcl_core.specs.Scheduling.{IsOnSchedule}
@@ -84,8 +84,8 @@ module _ (old now new : Schedule) (count : ℕ) (on : IsOnSchedule old count) (s
   all_counted : count + 1 ≡ 100 * sum (on.numbers ++ v ∷ [])
   all_counted = let counted = on.counted in let total = sum_push on.numbers v in let now_is = just_now in omega (arith, counted, total, now_is)
 
-  pub is_restart : IsRestart (count + 1)
-  is_restart = (length (on.numbers ++ v ∷ []), (on.numbers ++ v ∷ [], numbers_are, refl, all_counted))
+  pub is_restart_at : (r : ℕ) → r ≡ old.restarts + 1 → IsRestartAt r (count + 1)
+  is_restart_at r is = (on.numbers ++ v ∷ [], numbers_are, (let long = length-append on.numbers (v ∷ []) in let was = on.restarts in omega (arith, long, was, is)), all_counted)
 
   pub restarts_on_schedule : new.since ≡ 0 → new.restarts ≡ now.restarts + 1 → IsOnSchedule new (count + 1)
   restarts_on_schedule none one_more = record {

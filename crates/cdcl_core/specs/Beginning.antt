@@ -1,5 +1,5 @@
 -- How a search begins.
-use Rattle.std.specs.Prelude.{◌≡◌, ◌≢◌, [], List, Option, Some, None}
+use Rattle.std.specs.Prelude.{◌≡◌, ◌≢◌, Bool, [], List, Option, Some, None}
 use Rattle.cx_base.specs.Problem.{Problem}
 use Rattle.cx_base.specs.declared.steps.LogEvent.{LogEvent}
 use Rattle.parity_engine.specs.State.{State}
@@ -15,7 +15,7 @@ pub record IsAtStart (formula : Problem) (told : Option (List LogEvent)) (c : Se
   pub level : c.trail.level ≡ 0
   pub none : c.conflicts ≡ 0
 
--- the search is at its start with this engine; or the log is ended with no mark
-abbrev pub SearchBegins : {P : Type 0} → (P → State) → Problem → Option (List LogEvent) → SearchState → Option P → Type 0
-SearchBegins state formula told c (Some engine) = IsAtStart formula told c (state engine)
-SearchBegins state formula told c None = RefutesIn c.tidies formula 1 told []
+-- the search, which may tidy, is at its start with this engine; or the log is ended with no mark
+abbrev pub SearchBegins : {P : Type 0} → (P → State) → Bool → Problem → Option (List LogEvent) → SearchState → Option P → Type 0
+SearchBegins state tidies formula told c (Some engine) = IsAtStart formula told c (state engine) × (c.tidies ≡ tidies)
+SearchBegins state tidies formula told c None = RefutesIn tidies formula 1 told []

@@ -1,3 +1,4 @@
+pub mod LogLines
 pub mod Results
 pub mod Narrowing
 pub mod Learning

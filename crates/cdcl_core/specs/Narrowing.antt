@@ -1,5 +1,5 @@
 -- A formula over the variables that it uses, and what a search promises.
-use Rattle.std.specs.Prelude.{◌≢◌, ◌≡◌, ◌-◌, ◌/◌, ℕ, Bool, false, ◌&&◌, List, ◌++◌, length, take, replicate, nat_le, Result, IfOk, IfErr}
+use Rattle.std.specs.Prelude.{◌≢◌, ◌≡◌, ◌-◌, ◌/◌, ℕ, Bool, true, false, ◌&&◌, List, ◌++◌, length, take, replicate, nat_le, Result, IfOk, IfErr, OnOk}
 use Rattle.std.specs.List.{list_all}
 use Rattle.cx_base.specs.Counts.{Rose}
 use Rattle.cx_base.specs.Literals.{Literal}
@@ -12,8 +12,9 @@ use Rattle.conflict_learn.specs.declared.fault.CoreFault.TheVariants.{Write}
 use Rattle.conflict_learn.specs.Faults.{CountsAs, fault_in}
 use Rattle.search_steps.specs.Recovering.{SettledWithRecovered}
 use Rattle.step_text.specs.declared.sink.Sink as sink
-use Rattle.cdcl_search.specs.Tells.{GivesUp, HasFailedBy, HaveLowIds, HasNoMark}
-use Rattle.cdcl_core.specs.Results.{IsRightOutcome}
+use Rattle.cdcl_search.specs.Tells.{HasFailedBy, HaveLowIds, HasNoMark}
+use Rattle.cdcl_core.specs.LogLines.{AreInTime, GivesUpIn, KeepsIn}
+use Rattle.cdcl_core.specs.Results.{IsRightOutcomeIn}
 use Rattle.cdcl_core.specs.declared.narrowing.TheConstants.{MANY_VARIABLES}
 use Rattle.cdcl_core.specs.declared.solving.SearchOutcome.{SearchOutcome}
 use Rattle.cdcl_core.specs.declared.solving.SearchOutcome.TheVariants.{Sat, Unsat, Unknown}
@@ -49,14 +50,15 @@ padded_answer n (Unsat failed) = Unsat failed
 padded_answer n (Unknown conflicts) = Unknown conflicts
 
 -- What a search of the formula comes to, and what it leaves of a sink that was told nothing.
-pub record Searched {L : Type 0} (m : sink.Ghosts L LogEvent) (formula : Problem) (budget : ℕ) (old new : L) (result : Result SearchOutcome CoreFault) : Type 0 where
-  pub answers : IfOk result (λ a. IsRightOutcome formula budget (m.items new) a)
+pub record SearchedIn {L : Type 0} (tidies : Bool) (m : sink.Ghosts L LogEvent) (formula : Problem) (budget : ℕ) (old new : L) (result : Result SearchOutcome CoreFault) : Type 0 where
+  pub answers : IfOk result (λ a. IsRightOutcomeIn tidies formula budget (m.items new) a)
+  pub tidied : tidies ≡ true → OnOk result (AreInTime (m.lines new))
   pub settled : Settled formula → IfOk result (λ a. (conflicts : ℕ) → a ≢ Unknown conflicts)
   pub settled_with_recovered : SettledWithRecovered formula → IfOk result (λ a. (conflicts : ℕ) → a ≢ Unknown conflicts)
   pub unmarked : SettledWithRecovered formula → HasNoMark (m.items new)
   pub ids : HaveLowIds (m.items new)
-  pub gave_up : IfErr result (λ e. GivesUp formula (m.torn new) (m.items new) e)
+  pub gave_up : IfErr result (λ e. GivesUpIn tidies m formula new e)
   pub write : IfErr result (λ e. e ≡ Write → Rose (m.faults old) (m.faults new))
   pub faults : CountsAs (fault_in result) (m.faults old) (m.faults new)
   pub failed : HasFailedBy (fault_in result) (m.has_failed old) (m.has_failed new)
-  pub frame : m.keeps old new
+  pub frame : KeepsIn tidies m old new

@@ -1,5 +1,5 @@
 -- What the search answers.
-use Rattle.std.specs.Prelude.{◌≡◌, ◌≢◌, ℕ, ◌<◌, Bool, true, false, [], ◌∷◌, List, Option, Some, None, Result, IfOk, IsTrue, IsFalse}
+use Rattle.std.specs.Prelude.{◌≡◌, ◌≢◌, ℕ, ◌<◌, Bool, true, false, [], ◌∷◌, List, Option, Some, None, Result, IfOk, OnOk, IsTrue, IsFalse}
 use Rattle.cx_base.specs.Assumptions.{clashes, IsClash, IsFailed}
 use Rattle.cx_base.specs.Literals.{Literal, positive_of, negative_of}
 use Rattle.cx_base.specs.Problem.{Problem, Meets, Unmet}
@@ -18,7 +18,8 @@ use Rattle.search_steps.specs.Schedule.{IsScheduledIn}
 use Rattle.search_steps.specs.Size.{IsBounded}
 use Rattle.step_text.specs.declared.sink.Sink as sink
 use Rattle.cdcl_search.specs.declared.logs.SearchLog.{SearchLog}
-use Rattle.cdcl_search.specs.Logs.{GoesOn, told_in}
+use Rattle.cdcl_search.specs.Logs.{told_in}
+use Rattle.cdcl_core.specs.LogLines.{AreInTime, GoesOnIn}
 use Rattle.cdcl_core.specs.declared.solving.SearchOutcome.{SearchOutcome}
 use Rattle.cdcl_core.specs.declared.solving.SearchOutcome.TheVariants.{Sat, Unsat, Unknown}
 
@@ -95,8 +96,9 @@ UsesUp formula budget told conflicts = UsesUpIn false formula budget told confli
 abbrev pub IsRightOutcome : Problem → ℕ → Option (List LogEvent) → SearchOutcome → Type 0
 IsRightOutcome formula budget told outcome = IsRightOutcomeIn false formula budget told outcome
 
--- An answer is right, and where propagation alone settles the formula it is never unknown. The log goes on.
+-- An answer is right, and where propagation alone settles the formula it is never unknown. The log goes on; where the search tidies, its lines are in time.
 pub record AnswersTo {L : Type 0} (m : sink.Ghosts L LogEvent) (tidies : Bool) (budget : ℕ) (old : SearchLog L) (result : Result SearchOutcome CoreFault) (new : SearchLog L) : Type 0 where
   pub answers : IfOk result (λ a. IsRightOutcomeIn tidies new.formula.now budget (told_in m new) a)
   pub settled : SettledWithRecovered new.formula.now → IfOk result (λ a. IsSettledBy tidies new.formula.now 1 (told_in m new) a)
-  pub log : GoesOn m old (fault_in result) new
+  pub tidied : tidies ≡ true → OnOk result (AreInTime (m.lines new.sink.now))
+  pub log : GoesOnIn tidies m old (fault_in result) new

@@ -29,5 +29,5 @@ mod tautologies;
 mod tidying;
 
 pub use conflict_learn::CoreFault;
-pub use narrowing::solve_core;
+pub use narrowing::{solve_core, solve_tidy};
 pub use solving::SearchOutcome;

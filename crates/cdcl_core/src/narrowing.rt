@@ -1,5 +1,5 @@
 //! A search over no more variables than a formula uses.
-ghost use Rattle.std.specs.Prelude.{◌≡◌, ◌≢◌, ℕ, false, ◌≤◌, ◌^◌, [], ◌∷◌, ◌++◌, length, IfOk, IfErr, OnOk};
+ghost use Rattle.std.specs.Prelude.{◌≡◌, ◌≢◌, ℕ, true, false, ◌≤◌, ◌^◌, [], ◌∷◌, ◌++◌, length, IfOk, IfErr, OnOk};
 ghost use Rattle.cx_base.specs.Borrowed.{constraint_of};
 ghost use Rattle.cx_base.specs.Counts.{Rose};
 ghost use Rattle.cx_base.specs.Problem.{literals_of};
@@ -8,11 +8,12 @@ ghost use Rattle.conflict_learn.specs.declared.fault.CoreFault.TheVariants.{Writ
 ghost use Rattle.conflict_learn.specs.Faults.{CountsAs, fault_in};
 ghost use Rattle.search_steps.specs.Recovering.{SettledWithRecovered};
 ghost use Rattle.cdcl_search.specs.Tells.{GivesUp, HasFailedBy, HaveLowIds, HasNoMark};
-ghost use Rattle.cdcl_core.specs.Narrowing.{are_up_to, narrowed, padded, padded_answer, Searched, uses_few, uses_up_to};
-ghost use Rattle.cdcl_core.specs.Results.{IsRightOutcome, IsFresh};
+ghost use Rattle.cdcl_core.specs.LogLines.{AreInTime, GivesUpIn, HasNoLine};
+ghost use Rattle.cdcl_core.specs.Narrowing.{are_up_to, narrowed, padded, padded_answer, SearchedIn, uses_few, uses_up_to};
+ghost use Rattle.cdcl_core.specs.Results.{IsRightOutcome, IsRightOutcomeIn, IsFresh};
 ghost use Rattle.cdcl_core.specs.declared.solving.SearchOutcome.TheVariants as outcome;
 
-use crate::solving::{SearchOutcome, search_formula};
+use crate::solving::{Effort, SearchOutcome, search_formula};
 use conflict_learn::CoreFault;
 use cx_base::{ConstraintRef, Formula, FormulaBuilder, Lit, LogEvent, Values};
 use parity_engine::ParityEngine;
@@ -124,20 +125,21 @@ fn search_narrowed<P: ParityEngine + Drop, L: Sink<Item = LogEvent>>(
     alloc: Global,
     formula: &Formula,
     narrow: &Formula,
-    budget: u64,
+    effort: Effort,
     sink: &mut L,
 ) -> Result<SearchOutcome, CoreFault>
     requires narrow { narrow.now ≡ narrowed formula.now }
-    requires budget { (1 ≤ budget) × (budget ≤ 10 ^ 18) }
+    requires budget { (1 ≤ effort.budget) × (effort.budget ≤ 10 ^ 18) }
     requires few { length formula.now.constraints ≤ 4294967295 }
     requires fresh { IsFresh (L.items sink.old) }
     requires going { L.has_failed sink.old ≡ false }
-    ensures { Searched L.Sink formula.now budget sink.old sink.new result }
+    requires lines { effort.tidies ≡ true → HasNoLine (L.lines sink.old) }
+    ensures { SearchedIn effort.tidies L.Sink formula.now effort.budget sink.old sink.new result }
 {
     // `vars` tells the proof that the literals of both are within their variables.
     let _narrow_vars = narrow.vars();
     let vars = formula.vars();
-    let answer = search_formula::<P, L>(alloc, narrow, budget, sink)?;
+    let answer = search_formula::<P, L>(alloc, narrow, effort, sink)?;
     Ok(padded_answer(answer, vars)?)
 }
 
@@ -145,20 +147,21 @@ fn search_narrowed<P: ParityEngine + Drop, L: Sink<Item = LogEvent>>(
 fn search_used<P: ParityEngine + Drop, L: Sink<Item = LogEvent>>(
     alloc: Global,
     formula: &Formula,
-    budget: u64,
+    effort: Effort,
     sink: &mut L,
 ) -> Result<SearchOutcome, CoreFault>
-    requires budget { (1 ≤ budget) × (budget ≤ 10 ^ 18) }
+    requires budget { (1 ≤ effort.budget) × (effort.budget ≤ 10 ^ 18) }
     requires few { length formula.now.constraints ≤ 4294967295 }
     requires fresh { IsFresh (L.items sink.old) }
     requires going { L.has_failed sink.old ≡ false }
-    ensures { Searched L.Sink formula.now budget sink.old sink.new result }
+    requires lines { effort.tidies ≡ true → HasNoLine (L.lines sink.old) }
+    ensures { SearchedIn effort.tidies L.Sink formula.now effort.budget sink.old sink.new result }
 {
     if !uses_few(formula) {
-        return search_formula::<P, L>(alloc, formula, budget, sink);
+        return search_formula::<P, L>(alloc, formula, effort, sink);
     }
     let narrow = narrowed(alloc, formula)?;
-    search_narrowed::<P, L>(alloc, formula, &narrow, budget, sink)
+    search_narrowed::<P, L>(alloc, formula, &narrow, effort, sink)
 }
 
 /// Searches for values that meet the formula, up to a budget of counted conflicts, 1 to 10^18.
@@ -192,5 +195,43 @@ pub fn solve_core<P: ParityEngine + Drop, L: Sink<Item = LogEvent>>(
     ensures failed { HasFailedBy (fault_in result) (L.has_failed sink.old) (L.has_failed sink.new) }
     ensures frame { L.keeps sink.old sink.new }
 {
-    search_used::<P, L>(alloc, formula, budget, sink)
+    let effort = Effort {
+        budget,
+        tidies: false,
+    };
+    search_used::<P, L>(alloc, formula, effort, sink)
+}
+
+/// As `solve_core`, with in-processing: at each restart, in time for the next mark, the clauses are tidied, each new clause that
+/// arises is told with its hints, and the sink is told the tidy line of that restart. There no live clause of two or more different
+/// literals is a tautology, lies inside another, or strengthens one. A learned clause is deleted in a reduction, or at a restart where
+/// another live clause lies inside it. No bound on additions is promised.
+pub fn solve_tidy<P: ParityEngine + Drop, L: Sink<Item = LogEvent>>(
+    alloc: Global,
+    formula: &Formula,
+    budget: u64,
+    sink: &mut L,
+) -> Result<SearchOutcome, CoreFault>
+    requires budget { (1 ≤ budget) × (budget ≤ 10 ^ 18) }
+    requires few { length formula.now.constraints ≤ 4294967295 }
+    requires fresh { IsFresh (L.items sink.old) }
+    requires lines { HasNoLine (L.lines sink.old) }
+    requires going { L.has_failed sink.old ≡ false }
+    ensures answers { IfOk result (λ a. IsRightOutcomeIn true formula.now budget (L.items sink.new) a) }
+    ensures tidied { OnOk result (AreInTime (L.lines sink.new)) }
+    ensures settled { Settled formula.now → IfOk result (λ a. (conflicts : ℕ) → a ≢ outcome.Unknown conflicts) }
+    ensures settled_with_recovered { SettledWithRecovered formula.now → IfOk result (λ a. (conflicts : ℕ) → a ≢ outcome.Unknown conflicts) }
+    ensures unmarked { SettledWithRecovered formula.now → HasNoMark (L.items sink.new) }
+    ensures ids { HaveLowIds (L.items sink.new) }
+    ensures gave_up { IfErr result (λ e. GivesUpIn true L.Sink formula.now sink.new e) }
+    ensures write { IfErr result (λ e. e ≡ Write → Rose (L.faults sink.old) (L.faults sink.new)) }
+    ensures faults { CountsAs (fault_in result) (L.faults sink.old) (L.faults sink.new) }
+    ensures failed { HasFailedBy (fault_in result) (L.has_failed sink.old) (L.has_failed sink.new) }
+    ensures frame { L.keeps_else sink.old sink.new }
+{
+    let effort = Effort {
+        budget,
+        tidies: true,
+    };
+    search_used::<P, L>(alloc, formula, effort, sink)
 }

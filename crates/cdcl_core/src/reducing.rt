@@ -1,5 +1,5 @@
 //! Deleting learned clauses.
-ghost use Rattle.std.specs.Prelude.{◌≡◌, ◌+◌, ◌*◌, ◌≤◌, [], length, IsTrue};
+ghost use Rattle.std.specs.Prelude.{◌≡◌, ◌+◌, ◌*◌, ◌≤◌, [], length, IsTrue, OnOk};
 ghost use Rattle.search_steps.specs.Schedule.{IsRestart};
 ghost use Rattle.cdcl_search.specs.Calls.{SearchesOn};
 ghost use Rattle.cdcl_search.specs.Logs.{HasNotFailed, Stands};
@@ -59,6 +59,7 @@ pub(crate) fn reduce<P: ParityEngine, L: Sink<Item = LogEvent>>(
     requires going { HasNotFailed L.Sink log.old }
     ensures searches_on { SearchesOn P.ParityEngine L.Sink log.old state.old log.new state.new engine.now result }
     ensures trail { state.new.trail ≡ state.old.trail }
+    ensures units { OnOk result (length state.new.units.items ≡ length state.new.trail.entries) }
 {
     if state.reductions >= 1_000_000_000_000_000_000 {
         return Ok(());

@@ -1,19 +1,23 @@
 //! The rounds of a search.
-ghost use Rattle.std.specs.Prelude.{◌≡◌, ◌≢◌, ◌⊎◌, ◌<◌, ◌≤◌, ◌^◌, [], length, IfOk, None, Some};
+ghost use Rattle.std.specs.Prelude.{true, ◌≡◌, ◌≢◌, ◌⊎◌, ℕ, ◌<◌, ◌≤◌, ◌+◌, ◌^◌, [], length, IfNone, IfOk, None, Some};
+ghost use Rattle.conflict_learn.specs.Faults.{fault_in};
 ghost use Rattle.conflict_learn.specs.Marks.{AreClear};
 ghost use Rattle.parity_engine.specs.declared.state.Mood.TheVariants.{Broken};
 ghost use Rattle.search_steps.specs.Recovering.{SettledWithRecovered};
+ghost use Rattle.search_steps.specs.Schedule.{IsRestartAt};
 ghost use Rattle.search_policy.specs.Assuming.{Contradicts};
 ghost use Rattle.cdcl_search.specs.Finds.{PropagationFinds};
 ghost use Rattle.cdcl_search.specs.Searching.{SearchReaches};
-ghost use Rattle.cdcl_search.specs.Logs.{HasNotFailed, told_in};
+ghost use Rattle.cdcl_search.specs.Logs.{GoesOn, HasNotFailed, told_in};
 ghost use Rattle.cdcl_search.specs.declared.propagation.Found.TheVariants.{Quiet};
 ghost use Rattle.cdcl_search.specs.declared.searching.Reached.TheVariants as reached;
 ghost use Rattle.cdcl_core.specs.Beginning.{IsAtStart};
 ghost use Rattle.cdcl_core.specs.Concluding.{Concludes, IsByClause, IsConflictClause, IsTold};
 ghost use Rattle.cdcl_core.specs.Failing.{EndsAtPlace};
+ghost use Rattle.cdcl_core.specs.LogLines.{AreTidyLines, GoesOnIn};
 ghost use Rattle.cdcl_core.specs.Results.{AnswersTo};
-ghost use Rattle.cdcl_core.specs.Rounds.{EndsRound, IsSameRun, IsSearching, IsSettledIn, LeavesRound};
+ghost use Rattle.cdcl_core.specs.Rounds.{EndsRound, HasLinesAfter, IsSameRun, IsSearching, IsSettledIn, LeavesRestart, LeavesRound};
+ghost use Rattle.cdcl_core.specs.Scheduling.{IsOneAhead, IsOnSchedule};
 ghost use Rattle.cdcl_core.specs.Shortening.{HasAllUnits};
 ghost use Rattle.cdcl_core.specs.declared.solving.SearchOutcome.TheVariants as outcome;
 
@@ -23,10 +27,12 @@ use crate::failing::{Failure, fail};
 use crate::jumping::jump;
 use crate::learning::learn;
 use crate::refuting::{is_refuted, refute_conflict};
-use crate::schedule::{Schedule, follow_schedule};
+use crate::restarting::restart;
+use crate::schedule::{Schedule, reduce_where_many};
 use crate::solving::SearchOutcome;
+use crate::tidying::{tell_tidied, tidy_clauses};
 use cdcl_search::logs::SearchLog;
-use cdcl_search::{Found, Reached, SearchState, search_on, values_of};
+use cdcl_search::{Found, Reached, SearchState, is_quiet, search_on, settle, values_of};
 use conflict_learn::{CoreFault, Marks};
 use cx_base::{Lit, LitList, LogEvent};
 use parity_engine::ParityEngine;
@@ -194,11 +200,92 @@ impl<P: ParityEngine, L: Sink<Item = LogEvent>> Run<'_, '_, P, L> {
         self.conclude(assumptions, marks, reached)
     }
 
+    /// Implies what follows at level 0, and tells its units. The answer is one where that comes to a conflict, or contradicts an assumed literal. None: both
+    /// engines are quiet.
+    fn settle_at_restart(
+        &mut self,
+        assumptions: &mut Assumptions,
+        marks: &mut Marks,
+    ) -> Result<Option<SearchOutcome>, CoreFault>
+        requires searches { IsSearching P.ParityEngine L.Sink self.old assumptions.old marks.old [] }
+        requires unbroken { (P.state self.old.engine.now).mood ≢ Broken }
+        requires level { self.old.state.now.trail.level ≡ 0 }
+        ensures leaves { LeavesRestart P.ParityEngine L.Sink self.old result self.new assumptions.new marks.new }
+        ensures level { IfOk result (λ o. IfNone o (self.new.state.now.trail.level ≡ 0)) }
+        ensures units { IfOk result (λ o. IfNone o (length self.new.state.now.units.items ≡ length self.new.state.now.trail.entries)) }
+        ensures log { GoesOn L.Sink self.old.log.now (fault_in result) self.new.log.now }
+    {
+        let reached = settle(self.log, self.state, self.engine, assumptions)?;
+        if is_quiet(&reached) {
+            return Ok(None);
+        }
+        self.conclude(assumptions, marks, reached)
+    }
+
+    /// Tidies the clauses at the restart of this number, at level 0, and tells its tidy line. None: the search goes on.
+    fn tidy_at_restart(
+        &mut self,
+        assumptions: &mut Assumptions,
+        marks: &mut Marks,
+        number: u64,
+    ) -> Result<Option<SearchOutcome>, CoreFault>
+        requires searches { IsSearching P.ParityEngine L.Sink self.old assumptions.old marks.old [] }
+        requires unbroken { (P.state self.old.engine.now).mood ≢ Broken }
+        requires tidies { self.old.state.now.tidies ≡ true }
+        requires level { self.old.state.now.trail.level ≡ 0 }
+        requires due { IsRestartAt number self.old.state.now.conflicts }
+        requires lines { (before : ℕ) × (number ≡ before + 1) × AreTidyLines before (L.lines self.old.log.now.sink.now) }
+        ensures leaves { LeavesRestart P.ParityEngine L.Sink self.old result self.new assumptions.new marks.new }
+        ensures lines { HasLinesAfter number (L.lines self.new.log.now.sink.now) result }
+        ensures log { GoesOnIn true L.Sink self.old.log.now (fault_in result) self.new.log.now }
+    {
+        if let Some(outcome) = self.settle_at_restart(assumptions, marks)? {
+            return Ok(Some(outcome));
+        }
+        reduce_where_many(self.log, self.state, self.engine)?;
+        if let Some(failed) = tidy_clauses(self.log, self.state, self.engine)? {
+            return Ok(Some(SearchOutcome::Unsat { failed }));
+        }
+        tell_tidied(self.log, number)?;
+        assumptions.begin_again();
+        Ok(None)
+    }
+
+    /// After a counted conflict and its jump: restarts where that is due. It deletes learned clauses then where there are many, and a search that tidies
+    /// tidies its clauses. None: the search goes on.
+    fn follow_schedule(
+        &mut self,
+        assumptions: &mut Assumptions,
+        marks: &mut Marks,
+        schedule: &mut Schedule,
+    ) -> Result<Option<SearchOutcome>, CoreFault>
+        requires searches { IsSearching P.ParityEngine L.Sink self.old assumptions.old marks.old [] }
+        requires unbroken { (P.state self.old.engine.now).mood ≢ Broken }
+        requires on { IsOneAhead schedule.old self.old.state.now.conflicts }
+        requires lines { self.old.state.now.tidies ≡ true → AreTidyLines schedule.old.restarts (L.lines self.old.log.now.sink.now) }
+        ensures leaves { LeavesRestart P.ParityEngine L.Sink self.old result self.new assumptions.new marks.new }
+        ensures on { IsOnSchedule schedule.new self.old.state.now.conflicts }
+        ensures lines { self.old.state.now.tidies ≡ true → HasLinesAfter schedule.new.restarts (L.lines self.new.log.now.sink.now) result }
+        ensures log { GoesOnIn self.old.state.now.tidies L.Sink self.old.log.now (fault_in result) self.new.log.now }
+    {
+        let Some(number) = schedule.next_restart() else {
+            return Ok(None);
+        };
+        restart(self.log.formula, self.state, self.engine, assumptions);
+        if self.state.tidies {
+            return self.tidy_at_restart(assumptions, marks, number);
+        }
+        reduce_where_many(self.log, self.state, self.engine)?;
+        assumptions.begin_again();
+        Ok(None)
+    }
+
     /// Searches in rounds up to the budget, from the beginning on.
     pub(crate) fn search_in_rounds(&mut self) -> Result<SearchOutcome, CoreFault>
         requires begins { IsAtStart self.old.log.now.formula.now (told_in L.Sink self.old.log.now) self.old.state.now (P.state self.old.engine.now) }
         requires budget { (1 ≤ self.old.budget) × (self.old.budget ≤ 10 ^ 18) }
         requires going { HasNotFailed L.Sink self.old.log.now }
+        requires lines { self.old.state.now.tidies ≡ true → AreTidyLines 0 (L.lines self.old.log.now.sink.now) }
         ensures answers { AnswersTo L.Sink self.old.state.now.tidies self.old.budget self.old.log.now result self.new.log.now }
         ensures same { IsSameRun self.old self.new }
     {
@@ -209,13 +296,13 @@ impl<P: ParityEngine, L: Sink<Item = LogEvent>> Run<'_, '_, P, L> {
             if let Some(outcome) = self.round(&mut assumptions, &mut marks)? {
                 return Ok(outcome);
             }
-            follow_schedule(
-                self.log,
-                self.state,
-                self.engine,
+            if let Some(outcome) = self.follow_schedule(
                 &mut assumptions,
+                &mut marks,
                 &mut schedule,
-            )?;
+            )? {
+                return Ok(outcome);
+            }
         }
     }
 }

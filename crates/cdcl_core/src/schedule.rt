@@ -1,23 +1,20 @@
 //! When the search restarts, and which learned clauses it deletes then.
-ghost use Rattle.std.specs.Prelude.{◌≡◌, ◌≢◌, ◌<◌, ◌≤◌, ◌+◌, ◌*◌, ◌^◌, ◌↔◌, [], length, IsTrue, OnOk};
-ghost use Rattle.parity_engine.specs.declared.state.Mood.TheVariants.{Broken};
-ghost use Rattle.search_policy.specs.Assuming.{KeepsAssumptions};
+ghost use Rattle.std.specs.Prelude.{◌≡◌, ◌<◌, ◌≤◌, ◌+◌, ◌*◌, ◌^◌, ◌↔◌, ℕ, [], length, IsTrue, IfSome, MatchOption, OnOk};
 ghost use Rattle.search_policy.specs.Restarts.{IsDue};
-ghost use Rattle.search_steps.specs.Schedule.{IsRestart};
-ghost use Rattle.cdcl_search.specs.Calls.{IsReady, SearchesOn};
+ghost use Rattle.search_steps.specs.Schedule.{IsRestart, IsRestartAt};
+ghost use Rattle.cdcl_search.specs.Calls.{SearchesOn};
 ghost use Rattle.cdcl_search.specs.Logs.{HasNotFailed, Stands};
-ghost use Rattle.cdcl_core.specs.Scheduling.{IsOnSchedule, IsOneAhead};
+ghost use Rattle.cdcl_core.specs.Scheduling.{IsOnSchedule};
 
 use crate::compacting::compact;
 use crate::reducing::reduce;
-use crate::restarting::restart;
 use cdcl_search::SearchState;
 use cdcl_search::logs::SearchLog;
 use clause_arena::Arena;
 use conflict_learn::CoreFault;
 use cx_base::{ClauseRef, LogEvent, RefList};
 use parity_engine::ParityEngine;
-use search_policy::{Assumptions, Card, choose_removed_in_place, restart_due};
+use search_policy::{Card, choose_removed_in_place, restart_due};
 use std::alloc::{AllocError, Global};
 use step_text::Sink;
 
@@ -90,6 +87,21 @@ impl Schedule {
         self.since = 0;
         self.restarts += 1;
     }
+
+    /// Counts a conflict, and a restart where that is due then: its number is the answer.
+    pub fn next_restart(&mut self) -> Option<u64>
+        requires { (count : ℕ) × (count ≤ 10 ^ 18) × IsOnSchedule self.old count }
+        ensures on { (count : ℕ) → IsOnSchedule self.old count → IsOnSchedule self.new (count + 1) }
+        ensures number { MatchOption result (self.new.restarts ≡ self.old.restarts) (λ r. (r ≡ self.old.restarts + 1) × (self.new.restarts ≡ r)) }
+        ensures due { IfSome result (λ r. (count : ℕ) → IsOnSchedule self.old count → IsRestartAt r (count + 1)) }
+    {
+        self.count();
+        if !self.is_due() {
+            return None;
+        }
+        self.begin_again();
+        Some(self.restarts)
+    }
 }
 
 /// The learned clauses that a reduction removes.
@@ -113,7 +125,7 @@ fn has_units(state: &SearchState) -> bool
 }
 
 /// Deletes learned clauses at a restart where there are many, and closes the gaps that they leave.
-fn reduce_where_many<P: ParityEngine, L: Sink<Item = LogEvent>>(
+pub(crate) fn reduce_where_many<P: ParityEngine, L: Sink<Item = LogEvent>>(
     log: &mut SearchLog<L>,
     state: &mut SearchState,
     engine: &P,
@@ -124,6 +136,7 @@ fn reduce_where_many<P: ParityEngine, L: Sink<Item = LogEvent>>(
     ensures searches_on { SearchesOn P.ParityEngine L.Sink log.old state.old log.new state.new engine.now result }
     ensures level { state.new.trail.level ≡ state.old.trail.level }
     ensures variables { state.new.trail.variables ≡ state.old.trail.variables }
+    ensures units { length state.old.units.items ≡ length state.old.trail.entries → OnOk result (length state.new.units.items ≡ length state.new.trail.entries) }
 {
     if !has_units(state) || !are_many(state) {
         return Ok(());
@@ -131,33 +144,5 @@ fn reduce_where_many<P: ParityEngine, L: Sink<Item = LogEvent>>(
     let chosen = choose(log.alloc, state)?;
     reduce(log, state, engine, chosen.as_slice())?;
     compact(state)?;
-    Ok(())
-}
-
-/// After a counted conflict and its jump: restarts where that is due, and deletes learned clauses then.
-pub(crate) fn follow_schedule<P: ParityEngine, L: Sink<Item = LogEvent>>(
-    log: &mut SearchLog<L>,
-    state: &mut SearchState,
-    engine: &mut P,
-    assumptions: &mut Assumptions,
-    schedule: &mut Schedule,
-) -> Result<(), CoreFault>
-    requires ready { IsReady P.ParityEngine L.Sink log.old state.old engine.old }
-    requires keeps { KeepsAssumptions log.old.formula.now.constraints assumptions.old state.old.trail }
-    requires on { IsOneAhead schedule.old state.old.conflicts }
-    requires few { state.old.conflicts ≤ 10 ^ 18 }
-    ensures searches_on { SearchesOn P.ParityEngine L.Sink log.old state.old log.new state.new engine.new result }
-    ensures unbroken { (P.state engine.new).mood ≢ Broken }
-    ensures keeps { OnOk result (KeepsAssumptions log.new.formula.now.constraints assumptions.new state.new.trail) }
-    ensures on { OnOk result (IsOnSchedule schedule.new state.new.conflicts) }
-{
-    schedule.count();
-    if !schedule.is_due() {
-        return Ok(());
-    }
-    schedule.begin_again();
-    restart(log.formula, state, engine, assumptions);
-    reduce_where_many(log, state, engine)?;
-    assumptions.begin_again();
     Ok(())
 }

@@ -1,11 +1,12 @@
 //! The search as a whole.
-ghost use Rattle.std.specs.Prelude.{◌≡◌, false, ◌≤◌, ◌^◌, ◌∷◌, [], length, IfOk};
+ghost use Rattle.std.specs.Prelude.{◌≡◌, true, false, ◌≤◌, ◌^◌, ◌∷◌, [], length, IfOk};
 ghost use Rattle.cx_base.specs.Literals.{positive_of, negative_of};
 ghost use Rattle.cdcl_search.specs.Logs.{HasNotFailed, told_in};
 ghost use Rattle.cdcl_core.specs.Beginning.{IsAtStart};
 ghost use Rattle.cdcl_core.specs.Filling.{IsFilledUpTo};
 ghost use Rattle.cdcl_core.specs.Given.{AreEngines, HasGiven};
-ghost use Rattle.cdcl_core.specs.Narrowing.{Searched};
+ghost use Rattle.cdcl_core.specs.LogLines.{AreTidyLines, HasNoLine};
+ghost use Rattle.cdcl_core.specs.Narrowing.{SearchedIn};
 ghost use Rattle.cdcl_core.specs.Results.{AnswersTo, IsFresh};
 
 use crate::beginning::start;
@@ -34,6 +35,13 @@ pub enum SearchOutcome {
     Unknown { conflicts: u64 },
 }
 
+/// How many counted conflicts a search may come to, and whether it tidies its clauses at restarts.
+#[derive(Clone, Copy, Drop)]
+pub(crate) struct Effort {
+    pub budget: u64,
+    pub tidies: bool,
+}
+
 /// Searches up to the budget, from the beginning on. It prefers variables that are no row's basic one.
 fn search<P: ParityEngine, L: Sink<Item = LogEvent>>(
     log: &mut SearchLog<L>,
@@ -44,6 +52,7 @@ fn search<P: ParityEngine, L: Sink<Item = LogEvent>>(
     requires begins { IsAtStart log.old.formula.now (told_in L.Sink log.old) state.old (P.state engine.old) }
     requires budget { (1 ≤ budget) × (budget ≤ 10 ^ 18) }
     requires going { HasNotFailed L.Sink log.old }
+    requires lines { state.old.tidies ≡ true → AreTidyLines 0 (L.lines log.old.sink.now) }
     ensures { AnswersTo L.Sink state.old.tidies budget log.old result log.new }
 {
     let vars = log.formula.vars();
@@ -63,19 +72,20 @@ fn fill_and_search<P: ParityEngine + Drop, L: Sink<Item = LogEvent>>(
     log: &mut SearchLog<L>,
     filled: &mut Filled,
     parities: ParityList,
-    budget: u64,
+    effort: Effort,
 ) -> Result<SearchOutcome, CoreFault>
-    requires budget { (1 ≤ budget) × (budget ≤ 10 ^ 18) }
+    requires budget { (1 ≤ effort.budget) × (effort.budget ≤ 10 ^ 18) }
     requires few { length log.old.formula.now.constraints ≤ 4294967295 }
     requires given { HasGiven log.old.formula.now parities (told_in L.Sink log.old) }
     requires engines { AreEngines log.old.formula.now parities }
     requires none { IsFilledUpTo log.old.formula.now 0 filled.old.state filled.old.units.items filled.old.empty }
     requires going { HasNotFailed L.Sink log.old }
-    ensures { AnswersTo L.Sink false budget log.old result log.new }
+    requires lines { effort.tidies ≡ true → AreTidyLines 0 (L.lines log.old.sink.now) }
+    ensures { AnswersTo L.Sink effort.tidies effort.budget log.old result log.new }
 {
     fill(log.alloc, log.formula, filled)?;
-    match start::<P, L>(log, filled, parities)? {
-        Some(mut engine) => search(log, &mut filled.state, &mut engine, budget),
+    match start::<P, L>(log, filled, parities, effort.tidies)? {
+        Some(mut engine) => search(log, &mut filled.state, &mut engine, effort.budget),
         None => Ok(SearchOutcome::Unsat {
             failed: LitList::from_vec(Vec::new(log.alloc)),
         }),
@@ -96,13 +106,14 @@ fn both_of(alloc: Global, variable: Var) -> Result<LitList, AllocError>
 /// that is assumed with both signs fails.
 fn search_from_start<P: ParityEngine + Drop, L: Sink<Item = LogEvent>>(
     log: &mut SearchLog<L>,
-    budget: u64,
+    effort: Effort,
 ) -> Result<SearchOutcome, CoreFault>
-    requires budget { (1 ≤ budget) × (budget ≤ 10 ^ 18) }
+    requires budget { (1 ≤ effort.budget) × (effort.budget ≤ 10 ^ 18) }
     requires few { length log.old.formula.now.constraints ≤ 4294967295 }
     requires fresh { IsFresh (told_in L.Sink log.old) }
     requires going { HasNotFailed L.Sink log.old }
-    ensures { AnswersTo L.Sink false budget log.old result log.new }
+    requires lines { effort.tidies ≡ true → HasNoLine (L.lines log.old.sink.now) }
+    ensures { AnswersTo L.Sink effort.tidies effort.budget log.old result log.new }
 {
     tell_originals(log)?;
     if let Some(variable) = log.formula.clash() {
@@ -112,26 +123,27 @@ fn search_from_start<P: ParityEngine + Drop, L: Sink<Item = LogEvent>>(
     }
     let parities = all_parities(log)?;
     let mut filled = nothing_filled(log.alloc, log.formula)?;
-    fill_and_search::<P, L>(log, &mut filled, parities, budget)
+    fill_and_search::<P, L>(log, &mut filled, parities, effort)
 }
 
 /// Searches the formula over all variables of its header, up to the budget.
 pub(crate) fn search_formula<P: ParityEngine + Drop, L: Sink<Item = LogEvent>>(
     alloc: Global,
     formula: &Formula,
-    budget: u64,
+    effort: Effort,
     sink: &mut L,
 ) -> Result<SearchOutcome, CoreFault>
-    requires budget { (1 ≤ budget) × (budget ≤ 10 ^ 18) }
+    requires budget { (1 ≤ effort.budget) × (effort.budget ≤ 10 ^ 18) }
     requires few { length formula.now.constraints ≤ 4294967295 }
     requires fresh { IsFresh (L.items sink.old) }
     requires going { L.has_failed sink.old ≡ false }
-    ensures { Searched L.Sink formula.now budget sink.old sink.new result }
+    requires lines { effort.tidies ≡ true → HasNoLine (L.lines sink.old) }
+    ensures { SearchedIn effort.tidies L.Sink formula.now effort.budget sink.old sink.new result }
 {
     let mut log = SearchLog {
         alloc,
         formula,
         sink,
     };
-    search_from_start::<P, L>(&mut log, budget)
+    search_from_start::<P, L>(&mut log, effort)
 }

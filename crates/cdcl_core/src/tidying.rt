@@ -1,5 +1,5 @@
 //! Tidying the clauses of a search that restarts: none lies inside another, or strengthens it, then.
-ghost use Rattle.std.specs.Prelude.{◌≡◌, ◌≤◌, ◌+◌, [], ◌∷◌, List, ℕ, length, IfOk, OnOk, Option, MatchOption};
+ghost use Rattle.std.specs.Prelude.{true, ◌≡◌, ◌≤◌, ◌+◌, [], ◌∷◌, List, ℕ, length, IfOk, OnOk, Option, MatchOption};
 ghost use Rattle.cx_base.specs.Literals.{Literal};
 ghost use Rattle.cx_base.specs.Problem.{Problem};
 ghost use Rattle.cx_base.specs.declared.steps.LogEvent.{LogEvent};
@@ -10,6 +10,8 @@ ghost use Rattle.parity_engine.specs.State.{State};
 ghost use Rattle.watch_lists.specs.Anew.{AreWatchable};
 ghost use Rattle.cdcl_search.specs.Logs.{GoesOn, HasNotFailed, Stands, told_in};
 ghost use Rattle.cdcl_search.specs.Ties.{IsWatched, SearchStands};
+ghost use Rattle.step_text.specs.Sinks.{with_tidy};
+ghost use Rattle.cdcl_core.specs.LogLines.{GoesOnIn};
 ghost use Rattle.cdcl_core.specs.Results.{RefutesIn};
 ghost use Rattle.cdcl_core.specs.Tidying.{AreTidyNow, IsAtRestart, PutsUnit, StandsBeside, StandsUnwatched, StaysAtRestart, TidiesSearch, learned_count};
 
@@ -182,5 +184,21 @@ pub(crate) fn tidy_clauses<P: ParityEngine, L: Sink<Item = LogEvent>>(
             }
             Ok(Some(LitList::from_vec(Vec::new(log.alloc))))
         }
+    }
+}
+
+/// Tells the line that says that the clauses are tidy at this restart.
+pub(crate) fn tell_tidied<L: Sink<Item = LogEvent>>(
+    log: &mut SearchLog<L>,
+    restart: u64,
+) -> Result<(), CoreFault>
+    requires { HasNotFailed L.Sink log.old }
+    ensures told { OnOk result (L.lines log.new.sink.now ≡ with_tidy restart (L.lines log.old.sink.now)) }
+    ensures items { told_in L.Sink log.new ≡ told_in L.Sink log.old }
+    ensures log { GoesOnIn true L.Sink log.old (fault_in result) log.new }
+{
+    match log.sink.tidied(restart) {
+        Ok(()) => Ok(()),
+        Err(fault) => Err(fault_of(fault)),
     }
 }

@@ -6,6 +6,7 @@ use Rattle.cdcl_core.specs.Filling.{IsFilled}
 use Rattle.cdcl_core.specs.Given.{AreEngines}
 use Rattle.cdcl_core.specs.Results.{RefutesIn}
 use Rattle.cdcl_core.specs.Waiting.{SearchStandsBut, PutsUnits}
+use Rattle.cdcl_core.proofs.CalmLines.{refutes_either}
 use Rattle.cdcl_core.proofs.WaitingLaws.{no_ids, empty_is_id, filled_stands, empty_is_refutable, begun_stands, begun_is_calm}
 use Rattle.cdcl_core.proofs.beginning.start.Goals as goal
 
@@ -32,6 +33,24 @@ put_units-requires-clause-stands g c = (
 pub make-requires-clause-within : goal.make-requires-clause-within
 make-requires-clause-within g c = subst (λ n. AllByRecursion (AreWithin n) c.args.parities) (sym c.vars-vars.ensures.variables) c.requires.engines.within
 
+pub settle_tidying-requires-clause-few : goal.settle_tidying-requires-clause-few
+settle_tidying-requires-clause-few g c = subst (λ (f : Problem). length f.constraints ≤ 4294967295) (sym c.in_ok-put_units.ensures.log.formula) c.requires.few
+
+pub settle_tidying-requires-clause-plain : goal.settle_tidying-requires-clause-plain
+settle_tidying-requires-clause-plain g c = c.put_units.ensures.tidies ∙ c.requires.filled.never_tidies
+
+pub settle_tidying-requires-clause-stands : goal.settle_tidying-requires-clause-stands
+settle_tidying-requires-clause-stands g c =
+    let engines = c.args.parities in
+    let before : SearchStandsBut c.args.log.now.formula.now engines c.args.filled.now.state c.deref.result.now (g.L.Sink.items c.args.log.now.sink.now) =
+    subst (λ us. SearchStandsBut c.args.log.now.formula.now engines c.args.filled.now.state us (g.L.Sink.items c.args.log.now.sink.now)) (sym c.deref.ensures.value)
+    (filled_stands c.args.log.now.formula.now c.requires.few c.vars-vars.ensures.within engines c.requires.engines.few (g.L.Sink.items c.args.log.now.sink.now) c.requires.given c.args.filled.now.state c.args.filled.now.units.items
+    (subst (IsFilled c.args.log.now.formula.now c.args.filled.now.state c.args.filled.now.units.items) c.in_default.is c.requires.filled)) in (
+      engines,
+      g.L.Sink.items c.put_units.new.log.sink.now,
+      subst (PutsUnits c.put_units.new.log.formula.now engines c.put_units.new.state [] (g.L.Sink.items c.put_units.new.log.sink.now)) c.if-not-branch.false (c.in_ok-put_units.ensures.puts engines before),
+    )
+
 pub returns-clause-begins : goal.returns-clause-begins
 returns-clause-begins g c =
     let engines = c.args.parities in
@@ -43,23 +62,31 @@ returns-clause-begins g c =
     subst (λ us. SearchStandsBut c.args.log.now.formula.now engines c.args.filled.now.state us (g.L.Sink.items c.args.log.now.sink.now)) (sym c.deref.ensures.value)
     (filled_stands c.args.log.now.formula.now c.requires.few c.vars-vars.ensures.within engines c.requires.engines.few (g.L.Sink.items c.args.log.now.sink.now) c.requires.given c.args.filled.now.state c.args.filled.now.units.items
     (subst (IsFilled c.args.log.now.formula.now c.args.filled.now.state c.args.filled.now.units.items) c.in_default.is c.requires.filled)) in
-    let stands = subst (PutsUnits c.put_units.new.log.formula.now engines c.put_units.new.state [] (g.L.Sink.items c.put_units.new.log.sink.now)) c.if-not-branch.false (c.in_ok-put_units.ensures.puts engines before) in
-    record {
-      stands = begun_stands c.put_units.new.log.formula.now engines c.put_units.new.state (g.L.Sink.items c.put_units.new.log.sink.now) stands (g.P.ParityEngine.state c.in_ok-engine.engine) rows made
-          (subst (λ (f : Problem). length f.constraints ≤ 4294967295) (sym same) c.requires.few) (subst (λ f. AreEngines f engines) (sym same) c.requires.engines);
-      unbroken = begun_is_calm c.put_units.new.log.formula.now engines c.put_units.new.state (g.L.Sink.items c.put_units.new.log.sink.now) stands (g.P.ParityEngine.state c.in_ok-engine.engine) rows made;
-      level = stands.3.level;
-      none = stands.3.conflicts;
-    }
+    let put = subst (PutsUnits c.put_units.new.log.formula.now engines c.put_units.new.state [] (g.L.Sink.items c.put_units.new.log.sink.now)) c.if-not-branch.false (c.in_ok-put_units.ensures.puts engines before) in
+    let stands = c.in_ok-settle_tidying.ensures.stands engines (g.L.Sink.items c.put_units.new.log.sink.now) put in (
+      record {
+        stands = begun_stands c.put_units.new.log.formula.now engines c.settle_tidying.new.state (g.L.Sink.items c.put_units.new.log.sink.now) stands (g.P.ParityEngine.state c.in_ok-engine.engine) rows made
+            (subst (λ (f : Problem). length f.constraints ≤ 4294967295) (sym same) c.requires.few) (subst (λ f. AreEngines f engines) (sym same) c.requires.engines);
+        unbroken = begun_is_calm c.put_units.new.log.formula.now engines c.settle_tidying.new.state (g.L.Sink.items c.put_units.new.log.sink.now) stands (g.P.ParityEngine.state c.in_ok-engine.engine) rows made;
+        level = stands.3.level;
+        none = stands.3.conflicts;
+      },
+      c.in_ok-settle_tidying.ensures.tidies,
+    )
 
 pub returns-then-not-branch-clause-begins : goal.returns-then-not-branch-clause-begins
 returns-then-not-branch-clause-begins g c =
     let engines = c.args.parities in
+    let told = g.L.Sink.items c.put_units.new.log.sink.now in
     let before : SearchStandsBut c.args.log.now.formula.now engines c.args.filled.now.state c.deref.result.now (g.L.Sink.items c.args.log.now.sink.now) =
     subst (λ us. SearchStandsBut c.args.log.now.formula.now engines c.args.filled.now.state us (g.L.Sink.items c.args.log.now.sink.now)) (sym c.deref.ensures.value)
     (filled_stands c.args.log.now.formula.now c.requires.few c.vars-vars.ensures.within engines c.requires.engines.few (g.L.Sink.items c.args.log.now.sink.now) c.requires.given c.args.filled.now.state c.args.filled.now.units.items
     (subst (IsFilled c.args.log.now.formula.now c.args.filled.now.state c.args.filled.now.units.items) c.in_default.is c.requires.filled)) in
-    subst (PutsUnits c.put_units.new.log.formula.now engines c.put_units.new.state [] (g.L.Sink.items c.put_units.new.log.sink.now)) c.if-not-branch.true (c.in_ok-put_units.ensures.puts engines before)
+    let ends : RefutesIn c.put_units.new.state.tidies c.put_units.new.log.formula.now 1 told [] = subst (PutsUnits c.put_units.new.log.formula.now engines c.put_units.new.state [] told) c.if-not-branch.true (c.in_ok-put_units.ensures.puts engines before) in
+    refutes_either c.args.tidies c.put_units.new.log.formula.now 1 told [] (subst (λ b. RefutesIn b c.put_units.new.log.formula.now 1 told []) (c.put_units.ensures.tidies ∙ c.requires.filled.never_tidies) ends)
 
 pub returns-in-Some-clause-begins : goal.returns-in-Some-clause-begins
-returns-in-Some-clause-begins g c = subst (λ n. RefutesIn c.args.filled.now.state.tidies c.refute.new.log.formula.now (n + 1) (g.L.Sink.items c.refute.new.log.sink.now) []) c.requires.filled.conflicts c.in_ok-refute.ensures.refutes
+returns-in-Some-clause-begins g c =
+    let told = g.L.Sink.items c.refute.new.log.sink.now in
+    let formula = c.refute.new.log.formula.now in
+    refutes_either c.args.tidies formula 1 told [] (subst (λ b. RefutesIn b formula 1 told []) c.requires.filled.never_tidies (subst (λ n. RefutesIn c.args.filled.now.state.tidies formula (n + 1) told []) c.requires.filled.conflicts c.in_ok-refute.ensures.refutes))

@@ -33,6 +33,7 @@ returns g c = record {
     log = c.loop-reference.invariant.log;
   };
   trail = c.loop-reference.invariant.trail;
+  units = c.loop-reference.invariant.reducing.units;
 }
 
 pub returns-in_err-remove_where_may : goal.returns-in_err-remove_where_may
@@ -47,4 +48,5 @@ returns-in_err-remove_where_may g c =
         log = log_then g.L.Sink g.met.L.Sink.keeps_on _ c.loop-reference.log _ _ c.loop-reference.invariant.log done.log;
       };
       trail = c.in_err-remove_where_may.ensures.trail ∙ c.loop-reference.invariant.trail;
+      units = tt;
     })

@@ -1,7 +1,7 @@
 use Rattle.std.proofs.Common.{◌≡◌, ◌≤◌, ◌∙◌, sym, subst, rules}
 use Rattle.cx_base.specs.declared.literal.TheConstants.{MAX_VARIABLE}
+use Rattle.cdcl_core.proofs.LogLineLaws.{stops_in}
 use Rattle.cdcl_core.proofs.RaisedScores.{order_raised}
-use Rattle.cdcl_search.specs.GoingOn.{log_stops}
 use Rattle.std.proofs.lemmas.Result.{err_from_is_err_and}
 use Rattle.cdcl_core.specs.Results.{AnswersTo}
 use Rattle.cdcl_core.proofs.solving.search.Goals as goal
@@ -37,4 +37,4 @@ returns g c =
 pub returns-in_err-prefer_free : goal.returns-in_err-prefer_free
 returns-in_err-prefer_free g c =
     let fault = err_from_is_err_and c.from_residual.result c.from_residual.ensures.1 in
-    rw (fault.1, fault.2) (record { answers = tt; settled = λ s. tt; log = log_stops g.L.Sink g.met.L.Sink.keeps_itself c.args.log.now })
+    rw (fault.1, fault.2) (record { answers = tt; settled = λ s. tt; tidied = λ t. tt; log = stops_in g.L.Sink g.met.L.Sink.keeps_itself g.met.L.Sink.items_keep_else c.args.state.now.tidies c.args.log.now })

@@ -2,23 +2,27 @@ use Rattle.std.proofs.Common.{◌≡◌, refl, ◌+◌, [], arith, rules}
 use Rattle.cdcl_search.specs.declared.searching.Reached.TheVariants as reached
 use Rattle.cdcl_search.specs.declared.propagation.Found.TheVariants.{Quiet}
 use Rattle.cdcl_core.proofs.Answering.{log_is_open, values_are_known, refutes_within}
+use Rattle.cdcl_core.proofs.MarkCounts.{more_marks, open_has_marks, refuted_has_marks}
 use Rattle.cdcl_search.specs.GoingOn.{log_rests}
 use Rattle.search_policy.proofs.AssumingLaws.{all_assumed_true}
 use Rattle.cdcl_core.proofs.rounds.Run.conclude.Goals as goal
 
 pub returns-in_ok-values-in-Found-Quiet-clause-leaves : goal.returns-in_ok-values-in-Found-Quiet-clause-leaves
-returns-in_ok-values-in-Found-Quiet-clause-leaves g c = record {
-  goes_on = record {
-    meets = c.in_ok-values-in-Found-Quiet.ensures;
-    log = (c.args.self.now.state.now.conflicts, c.requires.searches.few.0, log_is_open c.args.self.now.log.now.formula.now c.args.self.now.state.now (g.P.ParityEngine.state c.args.self.now.engine.now) [] (g.L.Sink.items c.args.self.now.log.now.sink.now) c.requires.searches.stands);
-  };
-  one_more = tt;
-  tidies = tt;
-  keeps = tt;
-  clear = c.requires.searches.clear;
-  log = log_rests g.L.Sink g.met.L.Sink.keeps_itself c.args.self.now.log.now;
-  same = record { log = refl; state = refl; engine = refl; budget = refl };
-}
+returns-in_ok-values-in-Found-Quiet-clause-leaves g c =
+    let formula = c.args.self.now.log.now.formula.now in
+    let state = c.args.self.now.state.now in
+    let told = g.L.Sink.items c.args.self.now.log.now.sink.now in
+    let log = log_is_open formula state (g.P.ParityEngine.state c.args.self.now.engine.now) [] told c.requires.searches.stands in
+    record {
+      goes_on = record { meets = c.in_ok-values-in-Found-Quiet.ensures; log = (state.conflicts, c.requires.searches.few.0, log) };
+      one_more = tt;
+      marks = more_marks state.conflicts (state.conflicts + 1) told (omega arith) (open_has_marks state.tidies formula state.conflicts told log);
+      tidies = tt;
+      keeps = tt;
+      clear = c.requires.searches.clear;
+      log = log_rests g.L.Sink g.met.L.Sink.keeps_itself c.args.self.now.log.now;
+      same = record { log = refl; state = refl; engine = refl; budget = refl };
+    }
 
 pub returns-in_ok-values-in-Found-Quiet-clause-at_start : goal.returns-in_ok-values-in-Found-Quiet-clause-at_start
 returns-in_ok-values-in-Found-Quiet-clause-at_start g c level = (
@@ -36,6 +40,7 @@ returns-in_ok-failed-in-Failed-clause-leaves g c =
     record {
       goes_on = refutes_within c.conclude_failed.new.self.log.now.formula.now (c.args.self.now.state.now.conflicts + 1) c.args.self.now.budget (g.L.Sink.items c.conclude_failed.new.self.log.now.sink.now) c.in_ok-failed-in-Failed.failed (omega (arith, few)) ends.ends.refutes;
       one_more = tt;
+      marks = refuted_has_marks c.args.self.now.state.now.tidies c.conclude_failed.new.self.log.now.formula.now (c.args.self.now.state.now.conflicts + 1) (g.L.Sink.items c.conclude_failed.new.self.log.now.sink.now) c.in_ok-failed-in-Failed.failed ends.ends.refutes;
       tidies = tt;
       keeps = tt;
       clear = ends.clear;

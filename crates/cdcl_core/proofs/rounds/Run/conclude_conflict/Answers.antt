@@ -6,6 +6,7 @@ use Rattle.cdcl_search.specs.GoingOn.{log_then}
 use Rattle.cdcl_core.specs.declared.solving.SearchOutcome.TheVariants.{Unsat}
 use Rattle.cdcl_core.proofs.Answering.{refutes_within}
 use Rattle.cdcl_core.proofs.FailLaws.{conflict_ends_at}
+use Rattle.cdcl_core.proofs.MarkCounts.{refuted_has_marks}
 use Rattle.cdcl_core.proofs.rounds.Run.conclude_conflict.Goals as goal
 
 pub learn_and_jump-requires-clause-searches : goal.learn_and_jump-requires-clause-searches
@@ -45,6 +46,7 @@ returns-then-level-assumptions-clause-leaves g c =
     record {
       goes_on = refutes_within c.end.new.self.log.now.formula.now (c.args.self.now.state.now.conflicts + 1) c.args.self.now.budget (g.L.Sink.items c.end.new.self.log.now.sink.now) c.in_ok-failed.failed (omega (arith, few)) ends.ends.refutes;
       one_more = tt;
+      marks = refuted_has_marks c.args.self.now.state.now.tidies c.end.new.self.log.now.formula.now (c.args.self.now.state.now.conflicts + 1) (g.L.Sink.items c.end.new.self.log.now.sink.now) c.in_ok-failed.failed ends.ends.refutes;
       tidies = tt;
       keeps = tt;
       clear = c.in_ok-failed.ensures.ends.clear;
@@ -55,7 +57,7 @@ returns-then-level-assumptions-clause-leaves g c =
 pub returns-in_err-failed-clause-leaves : goal.returns-in_err-failed-clause-leaves
 returns-in_err-failed-clause-leaves g c =
     let fault = err_from_is_err_and c.from_residual-in_err-failed.result c.from_residual-in_err-failed.ensures.1 in
-    rw (fault.1, fault.2) (record { goes_on = tt; one_more = tt; tidies = tt; keeps = tt; clear = tt; log = log_then g.L.Sink g.met.L.Sink.keeps_on _ c.conflict_clause.new.log _ _ c.in_ok-conclusion.ensures.concludes_on.log c.in_err-failed.ensures.ends.ends.log; same = record { log = c.in_err-failed.ensures.ends.same.log; state = c.in_err-failed.ensures.ends.same.state; engine = c.in_err-failed.ensures.ends.same.engine; budget = c.in_err-failed.ensures.ends.same.budget } })
+    rw (fault.1, fault.2) (record { goes_on = tt; one_more = tt; marks = tt; tidies = tt; keeps = tt; clear = tt; log = log_then g.L.Sink g.met.L.Sink.keeps_on _ c.conflict_clause.new.log _ _ c.in_ok-conclusion.ensures.concludes_on.log c.in_err-failed.ensures.ends.ends.log; same = record { log = c.in_err-failed.ensures.ends.same.log; state = c.in_err-failed.ensures.ends.same.state; engine = c.in_err-failed.ensures.ends.same.engine; budget = c.in_err-failed.ensures.ends.same.budget } })
 
 pub returns-in_ok-failed-in-Ending-clause-leaves : goal.returns-in_ok-failed-in-Ending-clause-leaves
 returns-in_ok-failed-in-Ending-clause-leaves g c =
@@ -64,6 +66,7 @@ returns-in_ok-failed-in-Ending-clause-leaves g c =
     record {
       goes_on = refutes_within c.tell_ending.new.log.formula.now (c.args.self.now.state.now.conflicts + 1) c.args.self.now.budget (g.L.Sink.items c.tell_ending.new.log.sink.now) c.in_ok-failed-in-Ending.failed (omega (arith, few)) ends.refutes;
       one_more = tt;
+      marks = refuted_has_marks c.args.self.now.state.now.tidies c.tell_ending.new.log.formula.now (c.args.self.now.state.now.conflicts + 1) (g.L.Sink.items c.tell_ending.new.log.sink.now) c.in_ok-failed-in-Ending.failed ends.refutes;
       tidies = tt;
       keeps = tt;
       clear = c.requires.searches.clear;
@@ -74,12 +77,13 @@ returns-in_ok-failed-in-Ending-clause-leaves g c =
 pub returns-in_err-failed-in-Ending-clause-leaves : goal.returns-in_err-failed-in-Ending-clause-leaves
 returns-in_err-failed-in-Ending-clause-leaves g c =
     let fault = err_from_is_err_and c.from_residual-in_err-failed-in-Ending.result c.from_residual-in_err-failed-in-Ending.ensures.1 in
-    rw (fault.1, fault.2) (record { goes_on = tt; one_more = tt; tidies = tt; keeps = tt; clear = tt; log = log_then g.L.Sink g.met.L.Sink.keeps_on _ c.conflict_clause.new.log _ _ c.in_ok-conclusion.ensures.concludes_on.log c.in_err-failed-in-Ending.ensures.ends.log; same = record { log = refl; state = refl; engine = refl; budget = refl } })
+    rw (fault.1, fault.2) (record { goes_on = tt; one_more = tt; marks = tt; tidies = tt; keeps = tt; clear = tt; log = log_then g.L.Sink g.met.L.Sink.keeps_on _ c.conflict_clause.new.log _ _ c.in_ok-conclusion.ensures.concludes_on.log c.in_err-failed-in-Ending.ensures.ends.log; same = record { log = refl; state = refl; engine = refl; budget = refl } })
 
 pub returns-in-Clause-clause-leaves : goal.returns-in-Clause-clause-leaves
 returns-in-Clause-clause-leaves g c = record {
   goes_on = c.learn_and_jump.ensures.goes_on;
   one_more = c.learn_and_jump.ensures.one_more;
+  marks = c.learn_and_jump.ensures.marks;
   tidies = c.learn_and_jump.ensures.tidies;
   keeps = c.learn_and_jump.ensures.keeps;
   clear = c.learn_and_jump.ensures.clear;

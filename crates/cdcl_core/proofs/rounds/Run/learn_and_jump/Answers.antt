@@ -1,9 +1,10 @@
-use Rattle.std.proofs.Common.{refl, sym, subst, arith}
+use Rattle.std.proofs.Common.{◌+◌, refl, sym, subst, arith}
 use Rattle.cx_base.specs.Problem.{Problem}
 use Rattle.search_policy.specs.Assuming.{AreApart, KeepsAssumptions}
 use Rattle.cdcl_core.proofs.FailLaws.{above_is_free}
 use Rattle.cdcl_core.specs.Results.{IsOpenWith}
 use Rattle.cdcl_core.proofs.Answering.{learned_log_is_open}
+use Rattle.cdcl_core.proofs.MarkCounts.{open_has_marks}
 use Rattle.cdcl_search.specs.GoingOn.{log_stops, log_then}
 use Rattle.std.proofs.lemmas.Result.{err_from_is_err_and}
 use Rattle.cdcl_core.proofs.rounds.Run.learn_and_jump.Goals as goal
@@ -13,13 +14,11 @@ returns-then-self g c =
     let r = c.in_ok-learned.learned in
     let formula = c.learn.new.log.formula.now in
     let told = g.L.Sink.items c.learn.new.log.sink.now in
+    let log = learned_log_is_open formula c.args.self.now.state.now (g.P.ParityEngine.state c.args.self.now.engine.now) r.lits r.back_level told c.in_ok-learned.ensures.learned in
     record {
-      goes_on = record {
-        count = refl;
-        log = subst (λ n. IsOpenWith c.args.self.now.state.now.tidies formula n told) c.if-self.true
-            (learned_log_is_open formula c.args.self.now.state.now (g.P.ParityEngine.state c.args.self.now.engine.now) r.lits r.back_level told c.in_ok-learned.ensures.learned);
-      };
+      goes_on = record { count = refl; log = subst (λ n. IsOpenWith c.args.self.now.state.now.tidies formula n told) c.if-self.true log };
       one_more = tt;
+      marks = open_has_marks c.args.self.now.state.now.tidies formula (c.args.self.now.state.now.conflicts + 1) told log;
       tidies = tt;
       keeps = tt;
       clear = c.in_ok-learned.ensures.clear;
@@ -39,6 +38,7 @@ returns g c =
         fewer = omega (arith, one_more, fewer, other);
       };
       one_more = one_more;
+      marks = tt;
       tidies = c.in_ok-jump.ensures.tidies;
       keeps = subst (λ (f : Problem). KeepsAssumptions f.constraints c.jump.new.assumptions c.jump.new.state.trail) (sym c.in_ok-learned.ensures.log.formula) (c.in_ok-jump.ensures.keeps c.args.self.now.log.now.formula.now.constraints c.requires.searches.keeps);
       clear = c.in_ok-learned.ensures.clear;
@@ -49,12 +49,12 @@ returns g c =
 pub returns-in_err-learned : goal.returns-in_err-learned
 returns-in_err-learned g c =
     let fault = err_from_is_err_and c.from_residual.result c.from_residual.ensures.1 in
-    rw (fault.1, fault.2) (record { goes_on = tt; one_more = tt; tidies = tt; keeps = tt; clear = tt; log = c.in_err-learned.ensures.log; same = record { log = refl; state = refl; engine = refl; budget = refl } })
+    rw (fault.1, fault.2) (record { goes_on = tt; one_more = tt; marks = tt; tidies = tt; keeps = tt; clear = tt; log = c.in_err-learned.ensures.log; same = record { log = refl; state = refl; engine = refl; budget = refl } })
 
 pub returns-in_err-jump : goal.returns-in_err-jump
 returns-in_err-jump g c =
     let fault = err_from_is_err_and c.from_residual-in_err-jump.result c.from_residual-in_err-jump.ensures.1 in
-    rw (fault.1, fault.2) (record { goes_on = tt; one_more = tt; tidies = tt; keeps = tt; clear = tt; log = log_then g.L.Sink g.met.L.Sink.keeps_on _ c.learn.new.log _ _ c.in_ok-learned.ensures.log (log_stops g.L.Sink g.met.L.Sink.keeps_itself c.learn.new.log); same = record { log = refl; state = refl; engine = refl; budget = refl } })
+    rw (fault.1, fault.2) (record { goes_on = tt; one_more = tt; marks = tt; tidies = tt; keeps = tt; clear = tt; log = log_then g.L.Sink g.met.L.Sink.keeps_on _ c.learn.new.log _ _ c.in_ok-learned.ensures.log (log_stops g.L.Sink g.met.L.Sink.keeps_itself c.learn.new.log); same = record { log = refl; state = refl; engine = refl; budget = refl } })
 
 pub learn-requires-clause-ready : goal.learn-requires-clause-ready
 learn-requires-clause-ready g c = record { stands = c.requires.searches.stands; clear = c.requires.searches.clear; going = c.requires.searches.going }

@@ -4,6 +4,7 @@ use Rattle.std.specs.Prelude.{MatchOption}
 use Rattle.search_steps.specs.Recovering.{SettledWithRecovered}
 use Rattle.cdcl_search.specs.GoingOn.{log_then}
 use Rattle.cdcl_core.specs.Concluding.{SearchGoesOn}
+use Rattle.cdcl_core.specs.LogLines.{HasMarksUpTo}
 use Rattle.cdcl_core.specs.Results.{IsRightOutcomeIn}
 use Rattle.cdcl_core.specs.Rounds.{IsSettledIn}
 use Rattle.cdcl_core.proofs.rounds.Run.round.Goals as goal
@@ -24,6 +25,7 @@ returns-clause-leaves g c =
     record {
       goes_on = subst (λ b. IfOk c.conclude.result (λ o. MatchOption o (SearchGoesOn formula c.args.self.now.budget told now.state.now (g.P.ParityEngine.state now.engine.now)) (λ a. IsRightOutcomeIn b formula c.args.self.now.budget told a))) tidies leaves.goes_on;
       one_more = subst (λ n. IfOk c.conclude.result (λ o. MatchOption o (c.conclude.new.self.state.now.conflicts ≡ n + 1) (λ _. Unit {0}))) c.search_on.ensures.searches_on.conflicts leaves.one_more;
+      marks = subst (λ n. IfOk c.conclude.result (λ o. MatchOption o (Unit {0}) (λ _. HasMarksUpTo (n + 1) told))) c.search_on.ensures.searches_on.conflicts leaves.marks;
       tidies = subst (λ b. IfOk c.conclude.result (λ o. MatchOption o (now.state.now.tidies ≡ b) (λ _. Unit {0}))) tidies leaves.tidies;
       keeps = leaves.keeps;
       clear = leaves.clear;
@@ -53,4 +55,4 @@ conclude-requires-clause-reaches g c = c.in_ok-reached.ensures.reaches
 pub returns-in_err-reached : goal.returns-in_err-reached
 returns-in_err-reached g c =
     let fault = err_from_is_err_and c.from_residual.result c.from_residual.ensures.1 in
-    rw (fault.1, fault.2) (record { leaves = record { goes_on = tt; one_more = tt; tidies = tt; keeps = tt; clear = tt; log = c.in_err-reached.ensures.searches_on.log; same = record { log = refl; state = refl; engine = refl; budget = refl } }; settled = λ s level. tt })
+    rw (fault.1, fault.2) (record { leaves = record { goes_on = tt; one_more = tt; marks = tt; tidies = tt; keeps = tt; clear = tt; log = c.in_err-reached.ensures.searches_on.log; same = record { log = refl; state = refl; engine = refl; budget = refl } }; settled = λ s level. tt })

@@ -1,9 +1,9 @@
-use Rattle.std.proofs.Common.{◌≡◌, ◌-◌, None}
+use Rattle.std.proofs.Common.{◌≡◌, ◌-◌, true, None}
 use Rattle.conflict_learn.specs.Marks.{AreClear}
 use Rattle.search_steps.specs.Recovering.{SettledWithRecovered}
 use Rattle.search_policy.specs.Assuming.{KeepsAssumptions}
-use Rattle.cdcl_search.specs.Logs.{GoesOn}
 use Rattle.cdcl_core.specs.Concluding.{SearchGoesOn}
+use Rattle.cdcl_core.specs.LogLines.{AreTidyLines, GoesOnIn}
 use Rattle.cdcl_core.specs.Rounds.{IsSameRun}
 use Rattle.cdcl_core.specs.Scheduling.{IsOnSchedule}
 use Rattle.cdcl_core.proofs.rounds.Run.search_in_rounds.Given as goal
@@ -16,7 +16,8 @@ invariant-loop-assumptions g l = record {
   keeps : KeepsAssumptions l.self.log.now.formula.now.constraints l.assumptions l.self.state.now.trail;
   tidies : l.self.state.now.tidies ≡ l.fn.self.state.now.tidies;
   on : IsOnSchedule l.schedule l.self.state.now.conflicts;
-  log : GoesOn g.L.Sink l.fn.self.log.now None l.self.log.now;
+  lines : l.fn.self.state.now.tidies ≡ true → AreTidyLines l.schedule.restarts (g.L.Sink.lines l.self.log.now.sink.now);
+  log : GoesOnIn l.fn.self.state.now.tidies g.L.Sink l.fn.self.log.now None l.self.log.now;
   same : IsSameRun l.fn.self l.self;
 }
 
