@@ -32,4 +32,5 @@ pub mod Tallies
 pub mod MarkLaws
 pub mod BearLaws
 pub mod LookLaws
+pub mod BelowLaws
 pub mod RoomLaws

@@ -1,11 +1,11 @@
 -- Lists by variable that grow.
 use Rattle.std.proofs.Common.{◌≡◌, ◌≢◌, refl, sym, ap, ◌∙◌, subst, ℕ, ◌+◌, ◌<◌, ◌≤◌, ⊎_elim, List, [], ◌∷◌, ◌++◌, length, set, get_or, take, arith}
-use Rattle.std.specs.List.{Contains}
-use Rattle.std.proofs.lemmas.Bool.{cases_eq, cases_lt}
-use Rattle.std.proofs.lemmas.List.{get_or-set_same, get_or-set_other, get_or_append_left, get_or_past, get_or_push, length-append, length-set}
+use Rattle.std.specs.List.{All, Contains}
+use Rattle.std.proofs.lemmas.Bool.{cases_eq}
+use Rattle.std.proofs.lemmas.List.{get_or-set_same, get_or-set_other, get_or_append_left, get_or_push, length-append, length-set}
 use Rattle.std.proofs.lemmas.List.Elements.{All-more, All-weaker, Contains-append_left, Contains-append_right}
 use Rattle.cx_base.specs.Literals.{Literal}
-use Rattle.clause_arena.specs.Clauses.{ArenaState, literals_at}
+use Rattle.clause_arena.specs.Clauses.{ArenaState, IsLive, literals_at}
 use Rattle.clause_tidy.specs.Listing.{list_of, IsListed, KeepsEntries}
 use Rattle.clause_tidy.specs.Indexes.{IsIndexed, AreKnown}
 use Rattle.clause_tidy.specs.Signatures.{IsSignature}
@@ -40,28 +40,37 @@ listed_more lists new lits i x r low is keeps has before =
     All-more (λ l. Contains (list_of new l.variable) r) lits i x low (kept_listed lists new (take i lits) r keeps before) (subst (λ (l : Literal). Contains (list_of new l.variable) r) is has)
 
 -- ---- which variables have a list
-pub has_list : (lists : List (List ℕ)) (v r : ℕ) → Contains (list_of lists v) r → v < length lists
-has_list lists v r h = ⊎_elim (λ (low : v < length lists). low)
-    (λ (past : length lists ≤ v). let none = subst (λ (xs : List ℕ). Contains xs r) (get_or_past lists v [] past) h in absurd (omega (arith, none.1))) (cases_lt v (length lists))
-
-pub known_listed : (lists : List (List ℕ)) (lits : List Literal) (r : ℕ) → IsListed lists lits r → AreKnown lists lits
-known_listed lists lits r h = All-weaker (λ l. Contains (list_of lists l.variable) r) (λ l. l.variable < length lists) (λ l k. has_list lists l.variable r k) lits h
+pub still_known : (lists new : List (List ℕ)) (lits : List Literal) → length new ≡ length lists → AreKnown lists lits → AreKnown new lits
+still_known lists new lits long h = subst (λ n. All (λ l. l.variable < n) lits) (sym long) h
 
 -- ---- one clause more
-pub indexed_more : (a : ArenaState) (r : ℕ) (lists new : List (List ℕ)) (signatures grown : List ℕ) (s : ℕ) → IsIndexed a r lists signatures → KeepsEntries lists new → IsListed new (literals_at a r) r
-    → IsSignature s (literals_at a r) → grown ≡ signatures ++ s ∷ [] → IsIndexed a (r + 1) new grown
-indexed_more a r lists new signatures grown s before keeps listed signed is =
-    let was = before.each in
-    record {
-      each = let long = ap (λ (ss : List ℕ). length ss) is ∙ length-append signatures (s ∷ []) in let one : length (s ∷ []) ≡ 1 = refl in omega (arith, long, was, one);
-      listed = λ q low live. ⊎_elim (λ (e : q ≡ r). subst (λ (x : ℕ). IsListed new (literals_at a x) x) (sym e) listed)
-          (λ (ne : q ≢ r). kept_listed lists new (literals_at a q) q keeps (before.listed q (omega (arith, low, ne)) live)) (cases_eq q r);
-      signed = λ q low live. ⊎_elim
-          (λ (e : q ≡ r).
-          subst (λ (x : ℕ). IsSignature (get_or grown x 0) (literals_at a x)) (sym e)
-          (subst (λ (n : ℕ). IsSignature n (literals_at a r)) (sym (ap (λ (ss : List ℕ). get_or ss r 0) is ∙ get_or_push signatures s 0 r was)) signed))
-          (λ (ne : q ≢ r).
-          let less : q < r = omega (arith, low, ne) in
-          subst (λ (n : ℕ). IsSignature n (literals_at a q)) (sym (ap (λ (ss : List ℕ). get_or ss q 0) is ∙ get_or_append_left signatures (s ∷ []) 0 q (omega (arith, less, was))))
-          (before.signed q less live)) (cases_eq q r);
-    }
+module _ (a : ArenaState) (lists new : List (List ℕ)) (long : length new ≡ length lists) (keeps : KeepsEntries lists new) where
+  pub indexed_more : (first r : ℕ) (signatures grown : List ℕ) (s : ℕ) → IsIndexed a first r lists signatures → AreKnown lists (literals_at a r) → (first ≤ r → IsListed new (literals_at a r) r)
+      → IsSignature s (literals_at a r) → grown ≡ signatures ++ s ∷ [] → IsIndexed a first (r + 1) new grown
+  indexed_more first r signatures grown s before known listed signed is =
+      let was = before.each in
+      record {
+        each = let more = ap (λ (ss : List ℕ). length ss) is ∙ length-append signatures (s ∷ []) in let one : length (s ∷ []) ≡ 1 = refl in omega (arith, more, was, one);
+        known = λ q low live. still_known lists new (literals_at a q) long (⊎_elim (λ (e : q ≡ r). subst (λ (x : ℕ). AreKnown lists (literals_at a x)) (sym e) known)
+            (λ (ne : q ≢ r). before.known q (omega (arith, low, ne)) live) (cases_eq q r));
+        listed = λ q past low live. ⊎_elim (λ (e : q ≡ r). subst (λ (x : ℕ). IsListed new (literals_at a x) x) (sym e) (listed (subst (λ (x : ℕ). first ≤ x) e past)))
+            (λ (ne : q ≢ r). kept_listed lists new (literals_at a q) q keeps (before.listed q past (omega (arith, low, ne)) live)) (cases_eq q r);
+        signed = λ q low live. ⊎_elim
+            (λ (e : q ≡ r).
+            subst (λ (x : ℕ). IsSignature (get_or grown x 0) (literals_at a x)) (sym e)
+            (subst (λ (n : ℕ). IsSignature n (literals_at a r)) (sym (ap (λ (ss : List ℕ). get_or ss r 0) is ∙ get_or_push signatures s 0 r was)) signed))
+            (λ (ne : q ≢ r).
+            let less : q < r = omega (arith, low, ne) in
+            subst (λ (n : ℕ). IsSignature n (literals_at a q)) (sym (ap (λ (ss : List ℕ). get_or ss q 0) is ∙ get_or_append_left signatures (s ∷ []) 0 q (omega (arith, less, was))))
+            (before.signed q less live)) (cases_eq q r);
+      }
+
+  -- the one before the first comes into the lists
+  pub indexed_back : (old first count : ℕ) (signatures : List ℕ) → first + 1 ≡ old → IsIndexed a old count lists signatures → (IsLive a first → IsListed new (literals_at a first) first) → IsIndexed a first count new signatures
+  indexed_back old first count signatures is before here = record {
+    each = before.each;
+    known = λ q low live. still_known lists new (literals_at a q) long (before.known q low live);
+    listed = λ q past low live. ⊎_elim (λ (e : q ≡ first). subst (λ (x : ℕ). IsListed new (literals_at a x) x) (sym e) (here (subst (λ (x : ℕ). IsLive a x) e live)))
+        (λ (ne : q ≢ first). kept_listed lists new (literals_at a q) q keeps (before.listed q (omega (arith, past, ne, is)) low live)) (cases_eq q first);
+    signed = before.signed;
+  }

@@ -1,19 +1,19 @@
 -- What a look finds.
-use Rattle.std.proofs.Common.{◌≡◌, ◌≢◌, refl, sym, ap, ◌∙◌, subst, ℕ, ◌+◌, ◌*◌, ◌<◌, ⊎_elim, Bool, true, false, cond, inl, inr, List, [], ◌∷◌, ◌++◌, length, get_or, take, arith}
+use Rattle.std.proofs.Common.{◌≡◌, ◌≢◌, refl, sym, ap, ◌∙◌, subst, ℕ, ◌+◌, ◌*◌, ◌<◌, ◌≤◌, ⊎_elim, Bool, true, false, cond, inl, inr, List, [], ◌∷◌, ◌++◌, length, get_or, take, arith}
 use Rattle.std.specs.List.{Contains}
+use Rattle.std.specs.Prelude.{MatchBool, not}
 use Rattle.std.proofs.lemmas.Bool.{cases_eq}
 use Rattle.std.proofs.lemmas.List.{take_more}
 use Rattle.std.proofs.lemmas.List.Elements.{All-weaker, All-contains, Contains-append_left, Contains-append_right, Contains-append_cases}
 use Rattle.cx_base.specs.Literals.{Literal, code_of}
 use Rattle.clause_arena.specs.Clauses.{ArenaState, IsLive, literals_at}
 use Rattle.clause_arena.proofs.PackingLaws.{live_within}
-use Rattle.clause_tidy.specs.Indexes.{IsIndexed, AreKnown}
+use Rattle.clause_tidy.specs.Indexes.{IsIndexed, AreKnown, HasNoWholeFrom}
 use Rattle.clause_tidy.specs.Listing.{list_of}
 use Rattle.clause_tidy.specs.Looks.{HasWholesOf}
 use Rattle.clause_tidy.specs.Marks.{HaveRoom}
 use Rattle.clause_tidy.specs.Pairs.{Bears}
 use Rattle.clause_tidy.proofs.BearLaws.{contained, has_contained, has_variable}
-use Rattle.clause_tidy.proofs.ListingLaws.{known_listed}
 
 -- ---- lists that grow
 only_one : (r q : ℕ) → Contains (r ∷ []) q → q ≡ r
@@ -46,12 +46,19 @@ pub all_among : (a : ArenaState) (p : ℕ) (list found : List ℕ) (i : ℕ) →
 all_among a p list found i all h q among live bears = h q (subst (λ (xs : List ℕ). Contains xs q) (sym all) among) live bears
 
 -- ---- one list has them all
-pub listed_wholes : (a : ArenaState) (p : ℕ) (lists : List (List ℕ)) (signatures : List ℕ) (l : Literal) (found : List ℕ) → IsIndexed a (length a.clauses) lists signatures → Contains (literals_at a p) l
-    → HasWholesOf a p (Contains (list_of lists l.variable)) found → HasWholesOf a p (λ q. q < length a.clauses) found
-listed_wholes a p lists signatures l found index has h q among live bears =
+pub listed_wholes : (a : ArenaState) (p first : ℕ) (lists : List (List ℕ)) (signatures : List ℕ) (l : Literal) (found : List ℕ) → IsIndexed a first (length a.clauses) lists signatures → Contains (literals_at a p) l
+    → HasWholesOf a p (Contains (list_of lists l.variable)) found → HasWholesOf a p (λ q. first ≤ q) found
+listed_wholes a p first lists signatures l found index has h q among live bears =
     let w = has_variable (literals_at a p) (literals_at a q) bears.2 l (has_contained (literals_at a p) l has) in
-    let there = All-contains (λ m. Contains (list_of lists m.variable) q) (literals_at a q) w.0 (index.listed q among live) (contained (literals_at a q) w.0 w.1) in
+    let there = All-contains (λ m. Contains (list_of lists m.variable) q) (literals_at a q) w.0 (index.listed q among (live_within a q live) live) (contained (literals_at a q) w.0 w.1) in
     h q (subst (λ (v : ℕ). Contains (list_of lists v) q) w.2 there) live bears
+
+-- one that is empty has none
+pub no_whole : (a : ArenaState) (p first : ℕ) (lists : List (List ℕ)) (signatures : List ℕ) (l : Literal) → IsIndexed a first (length a.clauses) lists signatures → Contains (literals_at a p) l → list_of lists l.variable ≡ [] → HasNoWholeFrom a p first
+no_whole a p first lists signatures l index has none q past live bears =
+    let k = listed_wholes a p first lists signatures l [] index has (λ r among _ _. subst (λ (xs : List ℕ). Contains xs r) none among) q past live bears in
+    let low = k.1 in
+    absurd (omega (arith, low))
 
 -- ---- room for marks
 double : (b : Bool) (v n : ℕ) → v < n → 2 * v + cond {A = ℕ} b 1 0 < 2 * n
@@ -61,11 +68,16 @@ double false v n h = omega (arith, h)
 pub room_for : (marks : List Bool) (lists : List (List ℕ)) (lits : List Literal) → length marks ≡ 2 * length lists → AreKnown lists lits → HaveRoom marks lits
 room_for marks lists lits long known = All-weaker (λ l. l.variable < length lists) (λ l. code_of l < length marks) (λ l h. let low = double l.negative l.variable (length lists) h in subst (λ n. code_of l < n) (sym long) low) lits known
 
-pub known_clause : (a : ArenaState) (lists : List (List ℕ)) (signatures : List ℕ) (p : ℕ) → IsIndexed a (length a.clauses) lists signatures → IsLive a p → AreKnown lists (literals_at a p)
-known_clause a lists signatures p index live = known_listed lists (literals_at a p) p (index.listed p (live_within a p live) live)
+pub known_clause : (a : ArenaState) (first : ℕ) (lists : List (List ℕ)) (signatures : List ℕ) (p : ℕ) → IsIndexed a first (length a.clauses) lists signatures → IsLive a p → AreKnown lists (literals_at a p)
+known_clause a first lists signatures p index live = index.known p (live_within a p live) live
 
 -- ---- all references
 pub reached_more : (found new : List ℕ) (i r : ℕ) → r ≡ i → new ≡ found ++ r ∷ [] → ((q : ℕ) → q < i → Contains found q) → (q : ℕ) → q < i + 1 → Contains new q
 reached_more found new i r is grown before q low = subst (λ (xs : List ℕ). Contains xs q) (sym grown)
     (⊎_elim (λ (e : q ≡ r). subst (λ (x : ℕ). Contains (found ++ r ∷ []) x) (sym e) (last_is_in found r))
     (λ (ne : q ≢ r). Contains-append_left found (r ∷ []) q (before q (omega (arith, low, is, ne)))) (cases_eq q r))
+
+-- ---- a test
+pub match_not : (b : Bool) (P Q : Type 0) → P → (b ≡ true → Q) → MatchBool (not b) P Q
+match_not true P Q p q = q refl
+match_not false P Q p q = p

@@ -1,5 +1,6 @@
 //! For each variable a list of clauses.
-ghost use Rattle.std.specs.Prelude.{◌≡◌, ◌+◌, ◌<◌, ◌++◌, ◌∷◌, [], length, set, IfOk, OnOk};
+ghost use Rattle.std.specs.Prelude.{◌≡◌, ◌+◌, ◌<◌, ◌≤◌, ◌++◌, ◌∷◌, [], length, set, IfOk, IsTrue, OnOk, Contains};
+ghost use Rattle.cx_base.specs.Literals.{Literal};
 ghost use Rattle.clause_tidy.specs.Indexes.{AreKnown};
 ghost use Rattle.clause_tidy.specs.Listing.{list_of, IsListed, KeepsEntries};
 
@@ -103,4 +104,35 @@ pub(crate) fn enter(
         lists.put(lit.var(), clause)?;
     }
     Ok(())
+}
+
+/// Puts a clause into the list of each of its variables, unless its reference is before the first one.
+pub(crate) fn enter_from(
+    lists: &mut VariableLists,
+    lits: &[Lit],
+    clause: ClauseRef,
+    first: u32,
+) -> Result<(), AllocError>
+    requires { AreKnown lists.old lits.now }
+    ensures count { OnOk result (length lists.new ≡ length lists.old) }
+    ensures kept { OnOk result (KeepsEntries lists.old lists.new) }
+    ensures listed { OnOk result (first ≤ clause → IsListed lists.new lits.now clause) }
+{
+    if clause.place() < first {
+        return Ok(());
+    }
+    enter(lists, lits, clause)
+}
+
+/// Whether the list of some variable of these literals is empty.
+pub(crate) fn lacks_one(lists: &VariableLists, lits: &[Lit]) -> bool
+    requires { AreKnown lists.now lits.now }
+    ensures { IsTrue result → (l : Literal) × Contains lits.now l × (list_of lists.now l.variable ≡ []) }
+{
+    for lit in lits {
+        if lists.of(lit.var()).is_empty() {
+            return true;
+        }
+    }
+    false
 }

@@ -74,7 +74,7 @@ impl Look {
     /// Whether the part may bear on this clause.
     fn may_find(&self, index: &Index, arena: &Arena, clause: ClauseRef) -> bool
         requires look { IsLookAt arena.now self.now }
-        requires indexed { IsIndexed arena.now (length arena.now.clauses) index.now.lists index.now.signatures.items }
+        requires indexed { IsIndexed arena.now index.now.first (length arena.now.clauses) index.now.lists index.now.signatures.items }
         ensures { IsLive arena.now clause → Bears arena.now self.now.part clause → IsTrue result }
     {
         clause != self.part
@@ -92,7 +92,7 @@ impl Look {
         found: &mut Vec<ClauseRef>,
     ) -> Result<(), AllocError>
         requires look { IsLookAt arena.now self.now }
-        requires indexed { IsIndexed arena.now (length arena.now.clauses) index.now.lists index.now.signatures.items }
+        requires indexed { IsIndexed arena.now index.now.first (length arena.now.clauses) index.now.lists index.now.signatures.items }
         requires none { found.old.items ≡ [] }
         ensures { OnOk result (HasWholesOf arena.now self.now.part (Contains list.now) found.new.items) }
     {
@@ -104,7 +104,7 @@ impl Look {
         Ok(())
     }
 
-    /// Finds all clauses on which the part may bear.
+    /// Finds all clauses on which the part may bear, of those in the lists.
     fn find(
         &self,
         index: &Index,
@@ -113,9 +113,9 @@ impl Look {
     ) -> Result<(), AllocError>
         requires live { IsLive arena.now self.now.part }
         requires look { IsLookAt arena.now self.now }
-        requires indexed { IsIndexed arena.now (length arena.now.clauses) index.now.lists index.now.signatures.items }
+        requires indexed { IsIndexed arena.now index.now.first (length arena.now.clauses) index.now.lists index.now.signatures.items }
         requires none { found.old.items ≡ [] }
-        ensures { OnOk result (HasWholesOf arena.now self.now.part (λ q. q < length arena.now.clauses) found.new.items) }
+        ensures { OnOk result (HasWholesOf arena.now self.now.part (λ q. index.now.first ≤ q) found.new.items) }
     {
         let lits = arena.lits(self.part);
         if lits.is_empty() {
@@ -125,7 +125,7 @@ impl Look {
         self.find_in(index, arena, index.lists.of(lit.var()), found)
     }
 
-    /// Looks at this clause: finds all clauses on which it may bear.
+    /// Looks at this clause: finds all clauses on which it may bear, of those in the lists.
     pub(crate) fn look(
         &mut self,
         index: &Index,
@@ -134,10 +134,10 @@ impl Look {
         found: &mut Vec<ClauseRef>,
     ) -> Result<(), AllocError>
         requires live { IsLive arena.now part }
-        requires indexed { IsIndexed arena.now (length arena.now.clauses) index.now.lists index.now.signatures.items }
+        requires indexed { IsIndexed arena.now index.now.first (length arena.now.clauses) index.now.lists index.now.signatures.items }
         requires blank { IsBlankFor index.now.lists self.old }
         requires none { found.old.items ≡ [] }
-        ensures found { OnOk result (HasWholesOf arena.now part (λ q. q < length arena.now.clauses) found.new.items) }
+        ensures found { OnOk result (HasWholesOf arena.now part (λ q. index.now.first ≤ q) found.new.items) }
         ensures part { OnOk result (self.new.part ≡ part) }
         ensures blank { OnOk result (IsBlankFor index.now.lists self.new) }
     {

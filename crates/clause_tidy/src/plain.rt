@@ -29,6 +29,7 @@ pub fn tidy<L: Sink<Item = LogEvent>>(
         alloc,
         formula,
         spare,
+        from: 0,
     };
     tidier.tidy_all(arena, log, Search::Pairs)
 }

@@ -1,5 +1,6 @@
 //! The clauses of an arena are mended until none bears on another.
-ghost use Rattle.std.specs.Prelude.{◌<◌, IfOk, IsNone};
+ghost use Rattle.std.specs.Prelude.{◌<◌, ◌≤◌, length, IfOk, IsNone};
+ghost use Rattle.clause_tidy.specs.Below.{TidiedBelow};
 ghost use Rattle.clause_tidy.specs.Answers.{MayTidy, TidiesOn, MendsTo, HasNoTautology};
 ghost use Rattle.clause_tidy.specs.Pairs.{IsPair, NoneBears};
 ghost use Rattle.clause_tidy.specs.Rooms.{IsRoomFor};
@@ -67,7 +68,8 @@ impl Tidier<'_> {
         }
     }
 
-    /// Mends two clauses, one of which bears on the other, as long as there are two. Where an ending clause is left, the log ends with it.
+    /// Mends two clauses, one of which bears on the other, as long as there are two. Where an ending
+    /// clause is left, the log ends with it.
     pub(crate) fn settle_by_queue<L: Sink<Item = LogEvent>>(
         &self,
         arena: &mut Arena,
@@ -75,11 +77,13 @@ impl Tidier<'_> {
     ) -> Result<Option<LitList>, SinkFault>
         requires may { MayTidy L.Sink self.now.formula.now self.now.spare arena.old log.old }
         requires none { HasNoTautology arena.old }
+        requires within { self.now.from ≤ length arena.old.clauses }
+        requires tidy { TidiedBelow arena.old self.now.from }
         ensures free { IfOk result (λ ended. IsNone ended → HasNoTautology arena.new) }
         ensures bears { IfOk result (λ ended. IsNone ended → NoneBears arena.new) }
         ensures tidies { TidiesOn L.Sink self.now.formula.now self.now.spare arena.old log.old result (MendsTo self.now.formula.now self.now.spare arena.old arena.new) log.new }
     {
-        match TidyRoom::make(self.alloc, self.formula.vars(), arena) {
+        match TidyRoom::make(self.alloc, self.formula.vars(), arena, self.from) {
             Ok(mut room) => self.settle_in(arena, log, &mut room),
             Err(_) => Err(SinkFault::Memory),
         }

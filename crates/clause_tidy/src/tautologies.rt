@@ -1,5 +1,5 @@
 //! Clauses with a literal and its negation go first.
-ghost use Rattle.std.specs.Prelude.{◌≡◌, false, ℕ, IsTrue, OnOk, MatchBool};
+ghost use Rattle.std.specs.Prelude.{◌≡◌, ◌<◌, false, ℕ, IsTrue, OnOk, MatchBool};
 ghost use Rattle.cx_semantics.specs.Fresh.{is_tautology};
 ghost use Rattle.cx_base.specs.Problem.{Problem};
 ghost use Rattle.clause_arena.specs.Clauses.{IsLive, literals_at, id_at};
@@ -41,19 +41,21 @@ fn drop_tautology<L: Sink<Item = LogEvent>>(
     drop_clause(alloc, arena, log, clause)
 }
 
-/// Removes each clause with a literal and its negation.
+/// Removes each clause with a literal and its negation. Those before this reference have none.
 pub(crate) fn drop_tautologies<L: Sink<Item = LogEvent>>(
     alloc: Global,
     arena: &mut Arena,
     log: &mut L,
+    from: u32,
 ) -> Result<(), SinkFault>
     requires ids { (r : ℕ) → IsLive arena.old r → IsStepId (id_at arena.old r) }
+    requires free { (r : ℕ) → r < from → IsFreeAt arena.old r }
     requires going { L.has_failed log.old ≡ false }
     ensures left { OnOk result (IsLeft arena.old arena.new) }
     ensures free { OnOk result (HasNoTautology arena.new) }
     ensures tidies { (formula : Problem) (spare : ℕ) → TidiesOn L.Sink formula spare arena.old log.old result (λ _. Tidies formula spare arena.old arena.new) log.new }
 {
-    for place in 0..arena.len() {
+    for place in from as usize..arena.len() {
         match drop_tautology(alloc, arena, log, ClauseRef::new(place as u32)) {
             Ok(()) => {}
             Err(fault) => return Err(fault),

@@ -9,4 +9,6 @@ pub(crate) struct Tidier<'f> {
     pub formula: &'f Formula,
     /// The id under which a shorter clause waits for the one that it replaces to go.
     pub spare: u64,
+    /// The clauses before this reference were tidy when the work began.
+    pub from: u32,
 }

@@ -7,6 +7,7 @@ ghost use Rattle.tidy_rules.specs.declared.part.TidyPart.{TidyPart};
 ghost use Rattle.tidy_rules.specs.Parts.{IsPart, Tidied, lits_in};
 ghost use Rattle.clause_tidy.specs.Agreeing.{IsStepId, AreProper};
 ghost use Rattle.clause_tidy.specs.Answers.{EndsFrom, HasNoTautology, IsRightFrom, IsTold, IsTornAfter, MayTidy, MendsTo, TidiesOn};
+ghost use Rattle.clause_tidy.specs.Below.{TidiedBelow};
 ghost use Rattle.clause_tidy.specs.Derived.{IsDerived};
 ghost use Rattle.clause_tidy.specs.Done.{AgreesAgain, ArePartsOf, IfDone, IfEnded, IsCoveredBy, TidiesTo, TakesUnits};
 ghost use Rattle.clause_tidy.specs.Pairs.{NoneBears};
@@ -51,6 +52,8 @@ impl Tidier<'_> {
     ) -> Result<Option<LitList>, SinkFault>
         requires may { MayTidy L.Sink self.now.formula.now self.now.spare arena.old log.old }
         requires none { HasNoTautology arena.old }
+        requires within { self.now.from ≤ length arena.old.clauses }
+        requires tidy { TidiedBelow arena.old self.now.from }
         ensures free { IfOk result (λ ended. IsNone ended → HasNoTautology arena.new) }
         ensures bears { IfOk result (λ ended. IsNone ended → NoneBears arena.new) }
         ensures tidies { TidiesOn L.Sink self.now.formula.now self.now.spare arena.old log.old result (MendsTo self.now.formula.now self.now.spare arena.old arena.new) log.new }
@@ -68,11 +71,13 @@ impl Tidier<'_> {
         log: &mut L,
         search: Search,
     ) -> Result<Option<LitList>, SinkFault>
-        requires { MayTidy L.Sink self.now.formula.now self.now.spare arena.old log.old }
+        requires may { MayTidy L.Sink self.now.formula.now self.now.spare arena.old log.old }
+        requires within { self.now.from ≤ length arena.old.clauses }
+        requires tidy { TidiedBelow arena.old self.now.from }
         ensures tidied { IfOk result (λ ended. IsNone ended → Tidied arena.new []) }
         ensures tidies { TidiesOn L.Sink self.now.formula.now self.now.spare arena.old log.old result (MendsTo self.now.formula.now self.now.spare arena.old arena.new) log.new }
     {
-        match drop_tautologies(self.alloc, arena, log) {
+        match drop_tautologies(self.alloc, arena, log, self.from) {
             Ok(()) => self.settle(arena, log, search),
             Err(fault) => Err(fault),
         }
@@ -85,7 +90,9 @@ impl Tidier<'_> {
         log: &mut L,
         search: Search,
     ) -> Result<TidyOf, SinkFault>
-        requires { MayTidy L.Sink self.now.formula.now self.now.spare arena.old log.old }
+        requires may { MayTidy L.Sink self.now.formula.now self.now.spare arena.old log.old }
+        requires within { self.now.from ≤ length arena.old.clauses }
+        requires tidy { TidiedBelow arena.old self.now.from }
         ensures { TidiesOn L.Sink self.now.formula.now self.now.spare arena.old log.old result (TidiesTo self.now.formula.now self.now.spare arena.old arena.new) log.new }
     {
         let first = arena.len();
@@ -100,11 +107,54 @@ impl Tidier<'_> {
     }
 }
 
-/// Makes the clauses of an arena tidy, together with the units that arise, and tells the log each change.
+/// Makes the clauses of an arena tidy, together with the units that arise, and tells the log each change. Those before this
+/// reference are tidy already: where one of two clauses bears on the other, one of them is a later one.
 ///
 /// Where an ending clause arises, it is told and the log has ended. A fault of writing leaves the log with a torn step.
 /// After a fault the arena is a stage of the work. The log has not failed before, and has not after an answer: one that has
 /// failed is not asked again.
+pub fn tidy_from<L: Sink<Item = LogEvent>>(
+    alloc: Global,
+    arena: &mut Arena,
+    formula: &Formula,
+    spare: u64,
+    from: usize,
+    log: &mut L,
+) -> Result<TidyOf, SinkFault>
+    requires proper { AreProper formula.now arena.old }
+    requires spare { IsStepId spare }
+    requires tidy { TidiedBelow arena.old from }
+    requires going { L.has_failed log.old ≡ false }
+    ensures tidied { IfDone result (λ units ids. Tidied arena.new units) }
+    ensures each { IfDone result (λ units ids. length ids ≡ length units) }
+    ensures covers { IfDone result (λ units ids. (r : ℕ) → IsLive arena.old r → IsCoveredBy arena.new units (literals_at arena.old r) (learned_at arena.old r)) }
+    ensures derived { IfDone result (λ units ids. (p : TidyPart) → IsPart arena.new units p → IsDerived (IsClauseOf arena.old) (lits_in arena.new p)) }
+    ensures parts { IfDone result (λ units ids. ArePartsOf arena.old arena.new units ids) }
+    ensures learned { IfDone result (λ units ids. (q : ℕ) → IsLive arena.new q → IsTrue (learned_at arena.new q) → clause_at arena.new q ≡ clause_at arena.old q) }
+    ensures wide { IfDone result (λ units ids. (q : ℕ) → length arena.old.clauses ≤ q → IsWide arena.new q) }
+    ensures was { IfDone result (λ units ids. (q : ℕ) → IsLive arena.new q → WasOrCame formula.now arena.old arena.new q) }
+    ensures agrees { IfDone result (λ units ids. IsTold L.Sink spare arena.old log.old (AgreesAgain formula.now spare arena.old arena.new units ids) log.new) }
+    ensures ending { IfEnded result (λ lits. IsTrue (is_ending formula.now.constraints lits)) }
+    ensures ended { IfEnded result (λ lits. IsDerived (IsClauseOf arena.old) lits) }
+    ensures ends { IfEnded result (λ lits. IsTold L.Sink spare arena.old log.old (EndsFrom formula.now spare arena.old lits) log.new) }
+    ensures left { OnErr result (IsTold L.Sink spare arena.old log.old (IsRightFrom formula.now spare arena.old) log.new) }
+    ensures torn { OnFailed result (IsTold L.Sink spare arena.old log.old (IsTornAfter L.Sink formula.now spare arena.old log.new) log.new) }
+    ensures faults { SinkFaultsAs result (L.Sink.faults log.old) (L.Sink.faults log.new) }
+    ensures failed { HasFailedAs result (L.Sink.has_failed log.old) (L.Sink.has_failed log.new) }
+    ensures frame { L.Sink.keeps log.old log.new }
+{
+    let tidier = Tidier {
+        alloc,
+        formula,
+        spare,
+        from: from.min(arena.len()) as u32,
+    };
+    tidier.tidy_all(arena, log, Search::Queue)
+}
+
+/// Makes the clauses of an arena tidy, together with the units that arise, and tells the log each change.
+///
+/// As [`tidy_from`], where no clause is known to be tidy.
 pub fn tidy<L: Sink<Item = LogEvent>>(
     alloc: Global,
     arena: &mut Arena,
@@ -133,10 +183,5 @@ pub fn tidy<L: Sink<Item = LogEvent>>(
     ensures failed { HasFailedAs result (L.Sink.has_failed log.old) (L.Sink.has_failed log.new) }
     ensures frame { L.Sink.keeps log.old log.new }
 {
-    let tidier = Tidier {
-        alloc,
-        formula,
-        spare,
-    };
-    tidier.tidy_all(arena, log, Search::Queue)
+    tidy_from(alloc, arena, formula, spare, 0, log)
 }

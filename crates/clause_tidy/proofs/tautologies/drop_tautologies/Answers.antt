@@ -1,4 +1,4 @@
-use Rattle.std.proofs.Common.{◌∙◌, [], Ok, Err, arith}
+use Rattle.std.proofs.Common.{◌∙◌, [], Ok, Err}
 use Rattle.clause_tidy.specs.Tidying.{Tidies}
 use Rattle.clause_tidy.proofs.Composing.{tidied_on}
 use Rattle.clause_tidy.proofs.LeftLaws.{all_left, left_on, free_more}
@@ -9,7 +9,7 @@ pub loop-place-init : goal.loop-place-init
 loop-place-init g c = record {
   stage = λ formula spare. first_stage g.L.Sink formula spare c.args.arena.now c.args.log.now (g.met.L.Sink.keeps_itself c.args.log.now);
   left = all_left c.args.arena.now;
-  free = λ q less. absurd (omega (arith, less));
+  free = c.requires.free;
 }
 
 pub drop_tautology-requires-clause-going : goal.drop_tautology-requires-clause-going

@@ -19,18 +19,20 @@ returns-then-before-len c =
     let long = c.len.ensures.len in
     let eq : length a.clauses ≡ length b.clauses = omega (arith, was, same, long) in
     record {
-      indexed = subst (λ n. IsIndexed b n room.index.lists room.index.signatures.items) eq (still_indexed a b w.2 room.index.lists room.index.signatures.items w.3.indexed);
+      indexed = subst (λ n. IsIndexed b room.index.first n room.index.lists room.index.signatures.items) eq (still_indexed a b w.2 room.index.first room.index.lists room.index.signatures.items w.3.indexed);
+      first = w.3.first;
+      from = let from = w.3.from in omega (arith, from, eq);
       marks = w.3.marks;
       clear = w.3.clear;
       place = w.3.place;
-      due = due_with_none a b w.2 room room w.3.due (λ p k. k) refl (omega (arith, eq)) refl;
+      due = due_with_none a b w.2 room room w.3.due w.3.from (λ p k. k) refl refl refl (omega (arith, eq)) refl;
     }
 
 pub enter-requires-clause-indexed : goal.enter-requires-clause-indexed
 enter-requires-clause-indexed c =
     let w = c.requires.room in
     let index = c.args.self.now.index in
-    subst (λ n. IsIndexed c.args.arena.now n index.lists index.signatures.items) (sym w.1 ∙ sym c.new-clause.ensures) (still_indexed w.0 c.args.arena.now w.2 index.lists index.signatures.items w.3.indexed)
+    subst (λ n. IsIndexed c.args.arena.now index.first n index.lists index.signatures.items) (sym w.1 ∙ sym c.new-clause.ensures) (still_indexed w.0 c.args.arena.now w.2 index.first index.lists index.signatures.items w.3.indexed)
 
 pub enter-requires-clause-known : goal.enter-requires-clause-known
 enter-requires-clause-known c =
@@ -41,7 +43,7 @@ enter-requires-clause-known c =
     let was = w.1 in
     let is = c.new-clause.ensures in
     let past : length a.clauses ≤ r = omega (arith, was, is) in
-    λ live. new_is_known a c.args.arena.now w.2 index.lists index.signatures.items w.3.indexed r past live
+    λ live. new_is_known a c.args.arena.now w.2 index.first index.lists index.signatures.items w.3.indexed r past live
 
 pub returns : goal.returns
 returns c =
@@ -50,7 +52,7 @@ returns c =
     let b = c.args.arena.now in
     let old = c.args.self.now in
     let mid = c.enter.new.self in
-    let new : TidyRoom = record { index = mid.index; look = mid.look; queue = mid.queue; place = mid.place; found = c.push.new.self } in
+    let new : TidyRoom = record { index = mid.index; look = mid.look; from = mid.from; passed = mid.passed; queue = mid.queue; place = mid.place; found = c.push.new.self } in
     let r = c.new-clause.result in
     let is : r ≡ length a.clauses = c.new-clause.ensures ∙ w.1 in
     let entered = c.in_ok-enter.ensures in
@@ -64,13 +66,19 @@ returns c =
     let place = w.3.place in
     let same = kept.place in
     let longer = entered.longer in
+    let first = w.3.first in
+    let old_in = w.3.from in
+    let same_first = kept.first in
+    let same_from = kept.from in
     record {
-      indexed = subst (λ n. IsIndexed b n mid.index.lists mid.index.signatures.items) all entered.indexed;
+      indexed = subst (λ n. IsIndexed b mid.index.first n mid.index.lists mid.index.signatures.items) all entered.indexed;
+      first = omega (arith, first, same_first, same_from);
+      from = omega (arith, old_in, same_from, grown);
       marks = ap (λ (l : Look). length l.marks.items) kept.look ∙ w.3.marks ∙ ap (λ (n : ℕ). 2 * n) (sym entered.lists);
       clear = subst (λ (l : Look). AreClear l.marks.items) (sym kept.look) w.3.clear;
       place = omega (arith, place, same, longer);
-      due = due_with_one a b w.2 old new w.3.due (λ p k. subst (λ n. IsWaiting mid.queue.items n p) (sym kept.place) (entered.kept old.place p k)) kept.look (omega (arith, all, is))
+      due = due_with_one a b w.2 old new w.3.due old_in (λ p k. subst (λ n. IsWaiting mid.queue.items n p) (sym kept.place) (entered.kept old.place p k)) kept.look kept.from kept.passed (omega (arith, all, is))
           (λ live. subst (λ n. IsWaiting mid.queue.items n (length a.clauses)) (sym kept.place)
-          (subst (λ (x : ℕ). IsWaiting mid.queue.items old.place x) is (entered.waits old.place (subst (λ (x : ℕ). IsLive b x) (sym is) live) place)))
+          (subst (λ (x : ℕ). IsWaiting mid.queue.items old.place x) is (entered.waits old.place (omega (arith, old_in, is)) (subst (λ (x : ℕ). IsLive b x) (sym is) live) place)))
           (c.in_ok-push.ensures.items ∙ ap (λ (v : _). v.items ++ r ∷ []) kept.found ∙ ap (λ (x : ℕ). old.found.items ++ x ∷ []) is);
     }

@@ -11,17 +11,19 @@ pub returns-then-not-is_live-clause-room : goal.returns-then-not-is_live-clause-
 returns-then-not-is_live-clause-room c =
     let a = c.args.arena.now in
     let old = c.args.self.now in
-    let new : TidyRoom = record { index = old.index; look = old.look; queue = old.queue; place = old.place + 1; found = old.found } in
+    let new : TidyRoom = record { index = old.index; look = old.look; from = old.from; passed = old.passed; queue = old.queue; place = old.place + 1; found = old.found } in
     let before = c.requires.room in
     let more = c.requires.more in
     let item = c.index.result.now in
     let at : HoldsAt (λ x. x.clause ≡ item.clause) old.queue.items old.place = λ d. ap (λ (x : Queued). x.clause) (sym (get_or_read old.queue.items old.place item more c.index.ensures d)) in
     record {
       indexed = before.indexed;
+      first = before.first;
+      from = before.from;
       marks = before.marks;
       clear = before.clear;
       place = omega (arith, more);
-      due = due_after_dead a old new item.clause before c.requires.none at refl refl (λ live. not_both c.is_live.result (c.is_live.ensures.1 live) c.if-not-is_live.true);
+      due = due_after_dead a old new item.clause before c.requires.none at refl refl refl refl (λ live. not_both c.is_live.result (c.is_live.ensures.1 live) c.if-not-is_live.true);
     }
 
 pub look-requires-clause-blank : goal.look-requires-clause-blank
@@ -31,7 +33,7 @@ pub returns-clause-room : goal.returns-clause-room
 returns-clause-room c =
     let a = c.args.arena.now in
     let old = c.args.self.now in
-    let new : TidyRoom = record { index = old.index; look = c.look.new.self; queue = old.queue; place = old.place + 1; found = c.look.new.found } in
+    let new : TidyRoom = record { index = old.index; look = c.look.new.self; from = old.from; passed = old.passed; queue = old.queue; place = old.place + 1; found = c.look.new.found } in
     let before = c.requires.room in
     let more = c.requires.more in
     let item = c.index.result.now in
@@ -39,9 +41,11 @@ returns-clause-room c =
     on_oks c.look.result _ _ _ _
     (λ has part blank. record {
       indexed = before.indexed;
+      first = before.first;
+      from = before.from;
       marks = blank.room;
       clear = blank.clear;
       place = let after : old.place + 1 ≤ length old.queue.items = omega (arith, more) in after;
-      due = due_after_look a old new item.clause before c.requires.none at refl refl part has;
+      due = due_after_look a old new item.clause before c.requires.none at refl refl refl refl part c.requires.all has;
     })
     c.look.ensures.found c.look.ensures.part c.look.ensures.blank
