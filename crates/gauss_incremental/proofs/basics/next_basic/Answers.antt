@@ -12,4 +12,4 @@ closed c mask r None none = λ x free. subst (λ y. has (row_at c.rows r) y ≡ 
 closed c mask r (Some k) found = tt
 
 pub returns-clause-none : goal.returns-clause-none
-returns-clause-none c = closed c.args.matrix.now c.args.assigned.now c.args.row c.outside_near.result c.outside_near.ensures
+returns-clause-none c = closed c.args.matrix.now c.args.assigned.now c.args.row c.outside_near-found.result c.outside_near-found.ensures
