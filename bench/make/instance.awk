@@ -10,7 +10,8 @@
 # mixed:   N variables, N / 3 parities of three variables and 3 N clauses of three: some have values that meet them, some have none.
 # chain:   N parities of three variables, each of which shares its last one with the next, which has it first.
 # linked:  such a chain in which each parity's own variable comes before all that are shared.
-# apart:   N parities of three variables, none of which two share. These three are x-lines in each form.
+# apart:   N parities of three variables, none of which two share.
+# sparse:  N parities of three to five variables over 5 N / 4 variables, met by hidden values. These four are x-lines in each form.
 function word() { state = (state * 16807) % 2147483647; return state }
 function pick(n) { return 1 + int(word() / 2147483647 * n) }
 function three(  i) {
@@ -94,6 +95,24 @@ function apart(  k) {
     print "p cnf", 3 * size, size
     for (k = 0; k < size; k++) print "x" 3 * k + 1, 3 * k + 2, 3 * k + 3, 0
 }
+function sparse(  k, i, n, x, vars, sum, line) {
+    vars = int(5 * size / 4)
+    print "p cnf", vars, size
+    for (x = 1; x <= vars; x++) value[x] = word() % 2
+    for (k = 0; k < size; k++) {
+        n = 2 + pick(3)
+        split("", taken)
+        sum = 0
+        line = ""
+        for (i = 0; i < n; i++) {
+            do x = pick(vars); while (x in taken)
+            taken[x]
+            sum += value[x]
+            line = line x " "
+        }
+        print "x" (sum % 2 ? "" : "-") line "0"
+    }
+}
 BEGIN {
     state = seed + 12345
     for (i = 0; i < 10; i++) word()
@@ -107,4 +126,5 @@ BEGIN {
     if (kind == "chain") chain()
     if (kind == "linked") linked()
     if (kind == "apart") apart()
+    if (kind == "sparse") sparse()
 }

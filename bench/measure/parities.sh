@@ -2,8 +2,8 @@
 # Measures the engines of parities and the search over parities alone, as ratios in one run:
 # - assignments and backjumps a second of `Incremental` beside `Scratch`, over 200 parities of 300 variables;
 # - `cxsat solve` beside `cryptominisat5`, which runs as it comes and with its bounds on matrices lifted: inconsistent parities,
-#   planted instances, ladders as x-lines, 20,000 parities that share no variable or stand in one chain, and two wide ones that
-#   share every third variable;
+#   planted instances, ladders as x-lines, 20,000 parities that share no variable or stand in one chain, 16,000 of three to five
+#   variables over 20,000, and two wide ones that share every third variable;
 # - `cxsat solve` of ladders and inconsistent systems by clauses beside the same by x-lines.
 # usage: bench/measure/parities.sh [LIMIT [ACTS]]
 # LIMIT: seconds after which a run of a solver is cut off (60). ACTS: acts of `Incremental` (1,000,000); `Scratch` does a
@@ -139,6 +139,7 @@ for size in 8 50 100 200 400; do measure 'ladder as x-lines, rungs:' ladder "$si
 measure 'ladder as x-lines, rungs:' ladder 10000 1
 measure 'parities that share no variable:' apart 20000 1
 measure 'parities in one chain:' chain 20000 1
+measure 'sparse parities that hidden values meet:' sparse 16000 1
 for size in 30000 60000 120000; do measure 'two parities that share every third variable:' shared "$size" 1; done
 for size in 100 400 1000; do hidden 'ladder, rungs:' ladder "$size"; done
 for size in 200 800; do hidden 'inconsistent system, variables:' system "$size"; done
