@@ -18,7 +18,7 @@ use Rattle.cx_texts.proofs.Lines.{NoFeed, lines-line}
 use Rattle.cx_texts.proofs.PrintedLogs.{line_text, no_feed_event, printed_log_reads}
 use Rattle.cx_texts.proofs.LogLines.{tidy_text, no_feed_tidy, tidy_is_read, event_no_tidy, tidy_has_no_word, items_of_items, items_of_both}
 use Rattle.proof_text.specs.Told.{whole_lines, begun_line, is_none, is_whole}
-use Rattle.proof_text.proofs.ToldLaws.{no_feed_front, lines-append, begun-append, no_line, one_line, line_ends, none_left}
+use Rattle.proof_text.proofs.ToldLaws.{no_feed_front, lines-append, begun-append, no_line, all_begun, one_line, line_ends, none_left}
 use Rattle.step_text.specs.Sinks.{with_tidy}
 use Rattle.step_text.proofs.Puts.{Fails}
 use Rattle.log_text.specs.Told.{event_line, events_read, told_events, events_told}
@@ -66,12 +66,16 @@ told_line b l e h =
 pub whole_again : (b : Bytes) (l : Line LogEvent) → begun_line [] b ≡ [] → LineHasText l → begun_line [] (b ++ printed_log_line l) ≡ []
 whole_again b l e h = begun-append [] b (printed_log_line l) ∙ ap (λ x. begun_line x (printed_log_line l)) e ∙ ap (begun_line []) (is_words l) ∙ line_ends (words_text l) (no_feed_line l h)
 
-pub told_line_front : (b : Bytes) (l : Line LogEvent) (k : ℕ) → LineHasText l → k < length (printed_log_line l) → told_lines (b ++ take k (printed_log_line l)) ≡ told_lines b
-told_line_front b l k h low =
+-- a proper prefix of a line is a prefix of its words
+front_of_words : (l : Line LogEvent) (k : ℕ) → k < length (printed_log_line l) → take k (printed_log_line l) ≡ take k (words_text l)
+front_of_words l k low =
     let n : length (printed_log_line l) ≡ length (words_text l) + 1 = ap (λ (x : Bytes). length x) (is_words l) ∙ length-append (words_text l) (10 ∷ []) in
     let within : k ≤ length (words_text l) = omega arith in
-    let front : take k (printed_log_line l) ≡ take k (words_text l) = ap (take k) (is_words l) ∙ take-append-le k (words_text l) (10 ∷ []) within in
-    ap (λ x. told_lines (b ++ x)) front
+    ap (take k) (is_words l) ∙ take-append-le k (words_text l) (10 ∷ []) within
+
+pub told_line_front : (b : Bytes) (l : Line LogEvent) (k : ℕ) → LineHasText l → k < length (printed_log_line l) → told_lines (b ++ take k (printed_log_line l)) ≡ told_lines b
+told_line_front b l k h low =
+    ap (λ x. told_lines (b ++ x)) (front_of_words l k low)
     ∙ ap (flat_map lines_read) (lines-append [] b (take k (words_text l)) ∙ ap (λ ls. whole_lines [] b ++ ls) (no_line (begun_line [] b) (take k (words_text l)) (no_feed_front k (words_text l) (no_feed_line l h))) ∙ append-nil (whole_lines [] b))
 
 -- a port of whole lines that was given these lines tells them besides
@@ -81,6 +85,18 @@ told_all b (l ∷ lines) e h =
     ap told_lines (sym (append_assoc b (printed_log_line l) (printed_lines lines)))
     ∙ told_all (b ++ printed_log_line l) lines (whole_again b l e h.0) h.1
     ∙ ap (λ x. x ++ lines) (told_line b l e h.0) ∙ append_assoc (told_lines b) (l ∷ []) lines
+
+-- lines leave no line begun
+pub begun_lines : (b : Bytes) (lines : List (Line LogEvent)) → begun_line [] b ≡ [] → AllByRecursion LineHasText lines → begun_line [] (b ++ printed_lines lines) ≡ []
+begun_lines b [] e h = ap (begun_line []) (append-nil b) ∙ e
+begun_lines b (l ∷ lines) e h = ap (begun_line []) (sym (append_assoc b (printed_log_line l) (printed_lines lines))) ∙ begun_lines (b ++ printed_log_line l) lines (whole_again b l e h.0) h.1
+
+-- a prefix of a line after whole lines is the line that is begun
+pub begun_part : (b : Bytes) (l : Line LogEvent) (k : ℕ) → begun_line [] b ≡ [] → LineHasText l → k < length (printed_log_line l) → begun_line [] (b ++ take k (printed_log_line l)) ≡ take k (printed_log_line l)
+begun_part b l k e h low =
+    let front = front_of_words l k low in
+    begun-append [] b (take k (printed_log_line l)) ∙ ap (λ x. begun_line x (take k (printed_log_line l))) e ∙ ap (begun_line []) front
+    ∙ all_begun [] (take k (words_text l)) (no_feed_front k (words_text l) (no_feed_line l h)) ∙ sym front
 
 -- ---- the items among them are the events
 
