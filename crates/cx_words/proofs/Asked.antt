@@ -10,14 +10,14 @@ use Rattle.cx_words.specs.Given.{planned}
 use Rattle.cx_words.specs.Words.{Asks, plan_of}
 use Rattle.std.specs.Prelude.{option_and_then}
 use Rattle.cx_words.proofs.Enters.{Enters, enters_command, enters_fine}
-use Rattle.cx_words.proofs.Runs.{Finds, HasNoDefaults, found_fine, found_rows}
+use Rattle.cx_words.proofs.Runs.{Fills, Finds, found_fine, found_rows}
 
-pub asks : (program name : Bytes) (leaf : Shape) (words : List Bytes) (place : ℕ) (rows : List Row) (plan : Plan)
-    → Enters (built cxsat) name leaf → leaf.args_override_self ≡ false → HasNoDefaults leaf
-    → Finds leaf words place rows → check_fault leaf rows false ≡ [] → planned leaf.name rows ≡ Some plan → Asks (program ∷ name ∷ words) plan
+pub asks : (program name : Bytes) (leaf : Shape) (words : List Bytes) (place : ℕ) (rows all : List Row) (plan : Plan)
+    → Enters (built cxsat) name leaf → leaf.args_override_self ≡ false → Fills leaf rows all
+    → Finds leaf words place rows → check_fault leaf all false ≡ [] → planned leaf.name all ≡ Some plan → Asks (program ∷ name ∷ words) plan
 unfolding plan_of
-asks program name leaf words place rows plan enters once none finds complete is_planned = record {
-  taken = enters_fine (built cxsat) name leaf enters words (found_fine leaf words place rows none once finds complete);
+asks program name leaf words place rows all plan enters once fills finds complete is_planned = record {
+  taken = enters_fine (built cxsat) name leaf enters words (found_fine leaf words place rows all fills once finds complete);
   asked = ap (option_and_then (λ (found : Bytes × List Row). planned found.0 found.1)) (enters_command (built cxsat) name leaf enters words)
-      ∙ ap (planned leaf.name) (found_rows leaf words place rows none finds) ∙ is_planned;
+      ∙ ap (planned leaf.name) (found_rows leaf words place rows all fills finds) ∙ is_planned;
 }

@@ -9,9 +9,10 @@ use Rattle.clap.specs.Words.{Row, first_of, subcommand_of}
 use Rattle.cx_desk.specs.Outside.{Bytes}
 use Rattle.cx_words.specs.declared.plans.Plan.{Plan}
 use Rattle.cx_words.specs.declared.plans.Plan.TheVariants as plan
+use Rattle.cx_words.specs.declared.plans.SearchOptions.{SearchOptions}
 use Rattle.cx_words.specs.declared.refusal.PlanRefusal.{PlanRefusal}
 use Rattle.cx_words.specs.CommandLine.{cxsat}
-use Rattle.cx_words.specs.Given.{affine_of, blast_of, check_of, conflicts_of, demo_of, bytes_differ, elab_of, kind_of, logged, model_of, number_in, planned, seed_of, size_of, solve_of, three_names, trim_of, two_names}
+use Rattle.cx_words.specs.Given.{affine_of, blast_of, check_of, conflicts_of, demo_of, bytes_differ, elab_of, is_set, kind_of, logged, model_of, number_in, options_of, planned, seed_of, size_of, solve_of, three_names, trim_of, two_names}
 use Rattle.cx_words.specs.Words.{Asks, IsFit, plan_of}
 
 -- ---- where a choice or a step of options gave a value
@@ -74,14 +75,20 @@ conflicts_in_range : (given : Option Bytes) (n : ℕ) → conflicts_of given ≡
 conflicts_in_range None n e = let same : 1000000 ≡ n = cc in subst (λ (k : ℕ). (1 ≤ k) × (k ≤ 1000000000000000000)) same (omega arith, omega arith)
 conflicts_in_range (Some t) n e = in_range 1 1000000000000000000 t n e
 
+options_in_range : (given flag : Option Bytes) (options : SearchOptions) → options_of given flag ≡ Some options
+    → (1 ≤ options.conflicts) × (options.conflicts ≤ 1000000000000000000)
+options_in_range given flag options e =
+    let number = mapped (λ (n : ℕ). record { conflicts = n; inprocess = is_set flag }) (conflicts_of given) options e in
+    subst (λ (o : SearchOptions). (1 ≤ o.conflicts) × (o.conflicts ≤ 1000000000000000000)) number.2 (conflicts_in_range given number.0 number.1)
+
 -- ---- commands
 
-solve_fit : (f l c : Option Bytes) (p : Plan) → solve_of f l c ≡ Some p → IsFit p
-solve_fit f l c p e =
+solve_fit : (f l c i : Option Bytes) (p : Plan) → solve_of f l c i ≡ Some p → IsFit p
+solve_fit f l c i p e =
     let names = followed _ (logged f l) p e in
-    let number = mapped (plan.Solve names.0.0 names.0.1) (conflicts_of c) p names.2 in
-    let range = conflicts_in_range c number.0 number.1 in
-    subst IsFit number.2 (range.0, range.1, log_apart f l names.0 names.1)
+    let options = mapped (plan.Solve names.0.0 names.0.1) (options_of c i) p names.2 in
+    let range = options_in_range c i options.0 options.1 in
+    subst IsFit options.2 (range.0, range.1, log_apart f l names.0 names.1)
 
 check_fit : (f q : Option Bytes) (p : Plan) → check_of f q ≡ Some p → IsFit p
 check_fit f q p e = let names = mapped (λ (n : Bytes × Bytes). plan.Check n.0 n.1) (two_names f q) p e in subst IsFit names.2 (two_apart f q names.0 names.1)
@@ -127,7 +134,7 @@ none_fits p e = cc
 planned_fit : (command : Bytes) (values : List Row) → Fits (planned command values)
 planned_fit command values =
     let value : Bytes → Option Bytes = λ id. first_of id values in
-    either_fits (bytes_eq command (codes "solve")) _ _ (solve_fit (value (codes "formula")) (value (codes "proof")) (value (codes "conflicts")))
+    either_fits (bytes_eq command (codes "solve")) _ _ (solve_fit (value (codes "formula")) (value (codes "proof")) (value (codes "conflicts")) (value (codes "inprocess")))
     (either_fits (bytes_eq command (codes "check")) _ _ (check_fit (value (codes "formula")) (value (codes "proof")))
     (either_fits (bytes_eq command (codes "elab")) _ _ (elab_fit (value (codes "formula")) (value (codes "log")) (value (codes "proof")))
     (either_fits (bytes_eq command (codes "model")) _ _ (model_fit (value (codes "formula")) (value (codes "answer")))

@@ -1,13 +1,13 @@
 -- The commands as clap builds them.
 use Rattle.std.proofs.Common.{List, [], ◌∷◌, ◌++◌, refl, codes, true}
 use Rattle.clap.specs.Simple.{Shape, built, new_shape}
-use Rattle.clap.specs.Walk.{Rule}
+use Rattle.clap.specs.Walk.{Row, Rule}
 use Rattle.clap.proofs.OnLiterals.{clap_on_literals}
 use Rattle.cx_desk.specs.Outside.{Bytes}
 use Rattle.cx_words.specs.CommandLine.{cxsat}
 use Rattle.cx_words.proofs.Enters.{Enters}
-use Rattle.cx_words.proofs.Uses.{placed, chosen}
-use Rattle.cx_words.proofs.Runs.{HasNoDefaults}
+use Rattle.cx_words.proofs.Uses.{placed, chosen, switch}
+use Rattle.cx_words.proofs.Runs.{Fills}
 use Rattle.cx_words.proofs.Defaults.{Defaultless, no_fault, same_rows}
 use Rattle.clap.specs.Simple.{filled, help_rule}
 
@@ -15,7 +15,7 @@ abbrev pub leaf : Bytes → List Rule → Shape
 leaf name rules = record (new_shape name) { rules = rules ++ filled help_rule ∷ []; disable_help_subcommand = true; is_built = true }
 
 abbrev pub solve_leaf : Shape
-solve_leaf = leaf (codes "solve") (placed (codes "formula") 1 ∷ chosen (codes "proof") ∷ chosen (codes "conflicts") ∷ [])
+solve_leaf = leaf (codes "solve") (placed (codes "formula") 1 ∷ chosen (codes "proof") ∷ chosen (codes "conflicts") ∷ switch (codes "inprocess") ∷ [])
 
 abbrev pub check_leaf : Shape
 check_leaf = leaf (codes "check") (placed (codes "formula") 1 ∷ placed (codes "proof") 2 ∷ [])
@@ -70,5 +70,5 @@ pub enters_affine : Enters (built cxsat) (codes "affine") affine_leaf
 unfolding clap_on_literals
 enters_affine = record { met = refl; fine = refl; command = refl; defaults = refl; complete = refl }
 
-pub no_defaults : (s : Shape) → Defaultless s.rules → HasNoDefaults s
-no_defaults s none = record { fine = λ rows. no_fault s.rules rows none; same = λ rows. same_rows s.rules rows none }
+pub no_defaults : (s : Shape) (rows : List Row) → Defaultless s.rules → Fills s rows rows
+no_defaults s rows none = record { fine = no_fault s.rules rows none; filled = same_rows s.rules rows none }

@@ -29,7 +29,7 @@ refused_or_asked words = by (fault_of cxsat words) refl (plan_of words) refl
     by [] taken (Some p) is = inr (p, record { taken = taken; asked = is })
 
 pub plain_asked : (words : List Bytes) (p : Plan) → IsPlain words p → Asks words p
-plain_asked words (plan.Solve name to budget) h = solve_asked words name to budget h
+plain_asked words (plan.Solve name to options) h = solve_asked words name to options h
 plain_asked words (plan.Check name proof) h = check_asked words name proof h
 plain_asked words (plan.Elab name to proof) h = elab_asked words name to proof h
 plain_asked words (plan.Model name answer) h = model_asked words name answer h

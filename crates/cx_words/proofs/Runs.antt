@@ -8,7 +8,7 @@ use Rattle.clap.specs.Walk.{Row, Rule, Walk, walk, walked, walk_from, nothing_he
 use Rattle.clap.specs.Simple.{Shape}
 use Rattle.clap.specs.Faults.{level_fault, walk_fault, settle_fault, defaults_fault, check_fault}
 use Rattle.cx_desk.specs.Outside.{Bytes}
-use Rattle.cx_words.proofs.Uses.{Pending, NoFlag, Turn, at, chosen, holding, option_met, place_met, placed, row, settles, settles_fine, value_met}
+use Rattle.cx_words.proofs.Uses.{Pending, NoFlag, Turn, at, chosen, holding, option_met, place_met, placed, row, settles, settles_fine, switch, switch_met, switched, value_met}
 
 -- words take a walk from here to there, and none is a fault
 pub record Passes (s : Shape) (from : Walk) (words : List Bytes) (to : Walk) : Type 0 where
@@ -77,23 +77,37 @@ finds_chosen s words place rows id word value f once by_long known named dashes 
   fine = rw f.found (settles_fine s.rules id (Some id) None false rows value known new);
 }
 
--- no argument of the command has a default value
-pub record HasNoDefaults (s : Shape) : Type 0 where
-  pub fine : (rows : List Row) → defaults_fault rows s.rules ≡ []
-  pub same : (rows : List Row) → fold with_default rows s.rules ≡ rows
+-- a flag
+pub finds_switched : (s : Shape) (words : List Bytes) (place : ℕ) (rows : List Row) (id word : Bytes)
+    → Finds s words place rows → s.args_override_self ≡ false → arg_by_long s.rules id ≡ Some (switch id)
+    → long_of word ≡ Some (id, None) → bytes_eq word (45 ∷ 45 ∷ []) ≡ false
+    → has_row id rows ≡ false → Finds s (words ++ word ∷ []) place (rows ++ switched id ∷ [])
+finds_switched s words place rows id word f once by_long named dashes new = record {
+  before = settled_rows s.rules f.pending f.before ++ switched id ∷ [];
+  pending = None;
+  passes = then s _ words _ (word ∷ []) _ f.passes
+      (one_word s _ word _ (switch_met s f.before f.pending id word place by_long named dashes f.fine once (ap (has_row id) f.found ∙ new)));
+  found = ap (λ (r : List Row). r ++ switched id ∷ []) f.found;
+  fine = refl;
+}
+
+-- the default values make of these rows those, with no fault
+pub record Fills (s : Shape) (rows all : List Row) : Type 0 where
+  pub fine : defaults_fault rows s.rules ≡ []
+  pub filled : fold with_default rows s.rules ≡ all
 
 abbrev after : Shape → Walk → Kinds
 after s end = or_else (settle_fault s.rules s.args_override_self end.held)
     (or_else (defaults_fault (settled s.rules end.held).rows s.rules) (check_fault s (finished s.rules end.held) false))
 
-pub found_rows : (s : Shape) (words : List Bytes) (place : ℕ) (rows : List Row) → HasNoDefaults s → Finds s words place rows → rows_after s.rules [] words ≡ rows
-found_rows s words place rows none f = ap (λ (w : Walk). finished s.rules w.held) f.passes.met ∙ ap (λ (r : List Row). fold with_default r s.rules) f.found ∙ none.same rows
+pub found_rows : (s : Shape) (words : List Bytes) (place : ℕ) (rows all : List Row) → Fills s rows all → Finds s words place rows → rows_after s.rules [] words ≡ all
+found_rows s words place rows all fills f = ap (λ (w : Walk). finished s.rules w.held) f.passes.met ∙ ap (λ (r : List Row). fold with_default r s.rules) f.found ∙ fills.filled
 
-pub found_fine : (s : Shape) (words : List Bytes) (place : ℕ) (rows : List Row) → HasNoDefaults s → s.args_override_self ≡ false → Finds s words place rows
-    → check_fault s rows false ≡ [] → level_fault s [] nothing_held words false [] ≡ []
+pub found_fine : (s : Shape) (words : List Bytes) (place : ℕ) (rows all : List Row) → Fills s rows all → s.args_override_self ≡ false → Finds s words place rows
+    → check_fault s all false ≡ [] → level_fault s [] nothing_held words false [] ≡ []
 unfolding walk_fault
-found_fine s words place rows none once f complete =
+found_fine s words place rows all fills once f complete =
     let no_word : walk_fault s [] (walk_from nothing_held) words ≡ [] = ap (walk_fault s [] (walk_from nothing_held)) (sym (append-nil words)) ∙ f.passes.fine [] in
     ap (λ (k : Kinds). or_else k (after s (walk s.rules [] nothing_held words))) no_word
     ∙ ap (after s) f.passes.met
-    ∙ rw (once, f.fine, f.found, none.fine rows, none.same rows) complete
+    ∙ rw (once, f.fine, f.found, fills.fine, fills.filled) complete

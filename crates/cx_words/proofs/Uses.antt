@@ -1,5 +1,5 @@
--- One argument with one value: what a walk makes of its words.
-use Rattle.std.proofs.Common.{◌≡◌, ◌+◌, ℕ, Bool, List, [], ◌∷◌, ◌++◌, Some, None, Option, false, true, refl, append-nil}
+-- One argument with one value, or a flag: what a walk makes of its words.
+use Rattle.std.proofs.Common.{◌≡◌, ◌∙◌, ◌+◌, ℕ, Bool, List, [], ◌∷◌, ◌++◌, Some, None, Option, false, true, refl, append-nil, codes}
 use Rattle.std.specs.Prelude.{min}
 use Rattle.std.proofs.lemmas.Bool.{or_parts}
 use Rattle.std.proofs.Math.Bool.{and-false}
@@ -8,7 +8,7 @@ use Rattle.clap.specs.Lexer.{long_of, short_of, usize_max}
 use Rattle.clap.specs.Walk.{Held, Row, Rule, Walk, Waiting, walked, idle, option, at_row, has_row, more_values, settled_rows, arg_by_id, arg_by_index, arg_by_long}
 use Rattle.clap.specs.Simple.{Shape, new_rule}
 use Rattle.clap.specs.Faults.{turn_fault, settle_fault}
-use Rattle.clap.specs.declared.builder.ArgAction.TheVariants.{Set}
+use Rattle.clap.specs.declared.builder.ArgAction.TheVariants.{Set, SetTrue}
 use Rattle.clap.specs.declared.builder.ValueParser.TheVariants as vp
 use Rattle.clap.specs.declared.parser.matches.ValueSource.TheVariants.{CommandLine}
 use Rattle.clap.specs.declared.builder.value_parser.Reading.TheVariants.{AsWritten}
@@ -32,7 +32,18 @@ placed id place = single id None (Some place) true
 abbrev pub chosen : Bytes → Rule
 chosen id = single id (Some id) None false
 
--- what is found for it
+-- a flag, as clap builds it
+abbrev pub switch : Bytes → Rule
+switch id = record (new_rule id) {
+  long = Some id;
+  action = Some SetTrue;
+  defaults = codes "false" ∷ [];
+  missing = codes "true" ∷ [];
+  parser = Some vp.Bool;
+  range = Some (record { start_inclusive = 0; end_inclusive = 0 });
+}
+
+-- what is found for an argument with a value
 abbrev pub row : Bytes → Bytes → Row
 row id value = record { id = id; values = value ∷ []; count = None; source = Some CommandLine; reading = AsWritten }
 
@@ -45,7 +56,7 @@ holding rows pending = record { rows = rows; pending = pending; skip = 0 }
 abbrev pub at : List Row → Pending → Waiting → ℕ → Walk
 at rows pending waiting place = record { held = holding rows pending; waiting = waiting; position = place; is_trailing = false; stopped = None }
 
-at_new_row : (id : Bytes) (change : Row → List Row) (missing rows : List Row) → has_row id rows ≡ false → at_row id change missing rows ≡ rows ++ missing
+pub at_new_row : (id : Bytes) (change : Row → List Row) (missing rows : List Row) → has_row id rows ≡ false → at_row id change missing rows ≡ rows ++ missing
 at_new_row id change missing [] none = refl
 at_new_row id change missing (r ∷ rs) none =
     let two = or_parts (bytes_eq r.id id) (has_row id rs) none in
@@ -62,6 +73,10 @@ pub settles_fine : (rules : List Rule) (id : Bytes) (long : Option Bytes) (index
     → arg_by_id rules id ≡ Some (single id long index required) → has_row id rows ≡ false
     → settle_fault rules false (holding rows (Some (id, value ∷ []))) ≡ []
 settles_fine rules id long index required rows value known new = rw (known, new) refl
+
+-- what is found for a flag that is given
+abbrev pub switched : Bytes → Row
+switched id = row id (codes "true")
 
 -- the word is no flag, and neither `-abc` nor `--`
 pub record NoFlag (word : Bytes) : Type 0 where
@@ -108,3 +123,17 @@ value_met s rows id word place known plain same = record {
   met = rw (plain.dashes, plain.long, plain.short, known, same) refl;
   fine = rw (plain.dashes, plain.long, plain.short) refl;
 }
+
+-- a flag
+pub switch_met : (s : Shape) (rows : List Row) (pending : Pending) (id word : Bytes) (place : ℕ)
+    → arg_by_long s.rules id ≡ Some (switch id) → long_of word ≡ Some (id, None) → bytes_eq word (45 ∷ 45 ∷ []) ≡ false
+    → settle_fault s.rules false (holding rows pending) ≡ [] → s.args_override_self ≡ false → has_row id (settled_rows s.rules pending rows) ≡ false
+    → Turn s (at rows pending idle place) word (at (settled_rows s.rules pending rows ++ switched id ∷ []) None idle place)
+unfolding walked
+switch_met s rows pending id word place known named dashes fine once new =
+    let before = settled_rows s.rules pending rows in
+    let gone : at_row id (λ _. []) [] before ≡ before = at_new_row id (λ _. []) [] before new ∙ append-nil before in
+    record {
+      met = rw (dashes, named, known, gone, at_new_row id (more_values CommandLine (codes "true" ∷ [])) (switched id ∷ []) before new) refl;
+      fine = rw (dashes, named, known, once, fine, new) refl;
+    }

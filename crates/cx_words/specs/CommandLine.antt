@@ -1,7 +1,7 @@
 -- The command line that clap is given: eight commands, with their names, values and options.
 use Rattle.std.specs.Prelude.{List, [], ◌∷◌, fold, true, Some, codes}
 use Rattle.clap.specs.Words.{App, Rule, Text, new_app, new_rule, with_rule, with_subcommand}
-use Rattle.clap.specs.declared.builder.ArgAction.TheVariants.{Set}
+use Rattle.clap.specs.declared.builder.ArgAction.TheVariants.{Set, SetTrue}
 
 -- a word with a fixed place
 abbrev pub needed : Text → Rule
@@ -11,12 +11,16 @@ needed id = record (new_rule id) { required = true; action = Some Set }
 abbrev pub optional : Text → Rule
 optional id = record (new_rule id) { long = Some id; action = Some Set }
 
+-- an option without a value
+abbrev pub flag : Text → Rule
+flag id = record (new_rule id) { long = Some id; action = Some SetTrue }
+
 -- a command with its arguments
 abbrev pub command : Text → List Rule → App
 command name rules = fold with_rule (new_app name) rules
 
 abbrev pub solve : App
-solve = command (codes "solve") (needed (codes "formula") ∷ optional (codes "proof") ∷ optional (codes "conflicts") ∷ [])
+solve = command (codes "solve") (needed (codes "formula") ∷ optional (codes "proof") ∷ optional (codes "conflicts") ∷ flag (codes "inprocess") ∷ [])
 
 abbrev pub check : App
 check = command (codes "check") (needed (codes "formula") ∷ needed (codes "proof") ∷ [])

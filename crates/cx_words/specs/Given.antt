@@ -1,5 +1,5 @@
 -- What the values that clap finds ask for.
-use Rattle.std.specs.Prelude.{◌≡◌, ◌&&◌, ℕ, Bool, not, List, length, codes, Option, Some, None, Result, MatchResult, option_map, option_and_then, if◌then◌else◌, nat_lt, nat_le}
+use Rattle.std.specs.Prelude.{◌≡◌, ◌&&◌, ℕ, Bool, false, not, List, length, codes, Option, Some, None, Result, MatchResult, option_map, option_and_then, if◌then◌else◌, nat_lt, nat_le}
 use Rattle.std.specs.Borrow.{Bor}
 use Rattle.std.specs.Str.{bytes_eq}
 use Rattle.std.specs.List.{list_all}
@@ -10,6 +10,7 @@ use Rattle.cx_desk.specs.Outside.{Bytes}
 use Rattle.inst_gen.specs.declared.kind.InstanceKind.{InstanceKind}
 use Rattle.inst_gen.specs.declared.kind.InstanceKind.TheVariants.{Even, Odd}
 use Rattle.cx_words.specs.declared.plans.Plan.{Plan}
+use Rattle.cx_words.specs.declared.plans.SearchOptions.{SearchOptions}
 use Rattle.cx_words.specs.declared.plans.Plan.TheVariants as plan
 use Rattle.cx_words.specs.declared.refusal.PlanRefusal.{PlanRefusal}
 use Rattle.cx_words.specs.declared.refusal.PlanRefusal.TheVariants.{Usage}
@@ -46,6 +47,14 @@ abbrev pub conflicts_of : Option Bytes → Option ℕ
 conflicts_of None = Some 1000000
 conflicts_of (Some text) = number_in 1 1000000000000000000 text
 
+-- whether a flag is set, by the value that clap gives it
+abbrev pub is_set : Option Bytes → Bool
+is_set None = false
+is_set (Some text) = bytes_eq text (codes "true")
+
+abbrev pub options_of : Option Bytes → Option Bytes → Option SearchOptions
+options_of conflicts inprocess = option_map (λ n. record { conflicts = n; inprocess = is_set inprocess }) (conflicts_of conflicts)
+
 abbrev pub size_of : Option Bytes → Option ℕ
 size_of = option_and_then (number_in 4 2000)
 
@@ -64,9 +73,9 @@ logged None log = None
 logged (Some formula) None = Some (formula, None)
 logged (Some formula) (Some log) = if bytes_differ formula log then Some (formula, Some log) else None
 
-abbrev pub solve_of : Option Bytes → Option Bytes → Option Bytes → Option Plan
-solve_of formula log conflicts =
-    option_and_then (λ (names : Bytes × Option Bytes). option_map (plan.Solve names.0 names.1) (conflicts_of conflicts)) (logged formula log)
+abbrev pub solve_of : Option Bytes → Option Bytes → Option Bytes → Option Bytes → Option Plan
+solve_of formula log conflicts inprocess =
+    option_and_then (λ (names : Bytes × Option Bytes). option_map (plan.Solve names.0 names.1) (options_of conflicts inprocess)) (logged formula log)
 
 abbrev pub check_of : Option Bytes → Option Bytes → Option Plan
 check_of formula proof = option_map (λ (names : Bytes × Bytes). plan.Check names.0 names.1) (two_names formula proof)
@@ -94,7 +103,7 @@ affine_of = option_map plan.Affine
 abbrev pub planned : Bytes → List Row → Option Plan
 planned command values =
     if bytes_eq command (codes "solve")
-    then solve_of (first_of (codes "formula") values) (first_of (codes "proof") values) (first_of (codes "conflicts") values)
+    then solve_of (first_of (codes "formula") values) (first_of (codes "proof") values) (first_of (codes "conflicts") values) (first_of (codes "inprocess") values)
     else (if bytes_eq command (codes "check")
     then check_of (first_of (codes "formula") values) (first_of (codes "proof") values)
     else (if bytes_eq command (codes "elab")

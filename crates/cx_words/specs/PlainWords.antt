@@ -8,6 +8,7 @@ use Rattle.cx_desk.specs.Outside.{Bytes}
 use Rattle.inst_gen.specs.declared.kind.InstanceKind.{InstanceKind}
 use Rattle.inst_gen.specs.declared.kind.InstanceKind.TheVariants.{Even, Odd}
 use Rattle.cx_words.specs.declared.plans.Plan.{Plan}
+use Rattle.cx_words.specs.declared.plans.SearchOptions.{SearchOptions}
 use Rattle.cx_words.specs.declared.plans.Plan.TheVariants as plan
 
 -- ---- names and numbers
@@ -42,17 +43,19 @@ kind_word Odd = codes "odd"
 
 -- ---- solve
 
--- an argument of `solve`: FORMULA, `--proof LOG` or `--conflicts N`
+-- an argument of `solve`: FORMULA, `--proof LOG`, `--conflicts N` or `--inprocess`
 pub data Argument : Type 0 where
   formula_word : Bytes → Argument
   proof_option : Bytes → Argument
   conflicts_option : Bytes → Argument
+  inprocess_option : Argument
 
--- its words: the value of an option is the next word
+-- its words: the value of an option, where it has one, is the next word
 abbrev pub words_of : Argument → List Bytes
 words_of (formula_word name) = name ∷ []
 words_of (proof_option name) = codes "--proof" ∷ name ∷ []
 words_of (conflicts_option text) = codes "--conflicts" ∷ text ∷ []
+words_of inprocess_option = codes "--inprocess" ∷ []
 
 abbrev pub formula_in : Argument → List Bytes
 formula_in (formula_word name) = name ∷ []
@@ -66,10 +69,19 @@ abbrev pub conflicts_in : Argument → List Bytes
 conflicts_in (conflicts_option text) = text ∷ []
 conflicts_in _ = []
 
+abbrev pub flags_in : Argument → List Bytes
+flags_in inprocess_option = codes "--inprocess" ∷ []
+flags_in _ = []
+
 -- what may be left out, as a list of one or none
 abbrev pub listed : Option Bytes → List Bytes
 listed None = []
 listed (Some text) = text ∷ []
+
+-- the word of the flag, where it is set
+abbrev pub flagged : Bool → List Bytes
+flagged false = []
+flagged true = codes "--inprocess" ∷ []
 
 -- a number of conflicts from 1 to 10^18, or a million where none is given
 abbrev pub IsBudget : Option Bytes → ℕ → Type 0
@@ -77,7 +89,7 @@ IsBudget None number = number ≡ 1000000
 IsBudget (Some text) number = SpellsWithin 1 1000000000000000000 text number
 
 -- `solve` with its arguments in any order: FORMULA once, each option at most once
-pub record PlainSolve (formula : Bytes) (log : Option Bytes) (conflicts : ℕ) (words : List Bytes) : Type 0 where
+pub record PlainSolve (formula : Bytes) (log : Option Bytes) (options : SearchOptions) (words : List Bytes) : Type 0 where
   pub program : Bytes
   pub arguments : List Argument
   pub number_text : Option Bytes
@@ -85,10 +97,11 @@ pub record PlainSolve (formula : Bytes) (log : Option Bytes) (conflicts : ℕ) (
   pub formula_once : flat_map formula_in arguments ≡ formula ∷ []
   pub log_at_most_once : flat_map log_in arguments ≡ listed log
   pub conflicts_at_most_once : flat_map conflicts_in arguments ≡ listed number_text
+  pub inprocess_at_most_once : flat_map flags_in arguments ≡ flagged options.inprocess
   pub formula_name : IsFormulaName formula
   pub log_name : IfSome log IsName
   pub differ : IfSome log (λ l. formula ≢ l)
-  pub budget : IsBudget number_text conflicts
+  pub budget : IsBudget number_text options.conflicts
 
 -- ---- the commands without options
 
@@ -144,7 +157,7 @@ pub record PlainAffine (formula : Bytes) (words : List Bytes) : Type 0 where
 
 -- the words are plain and ask for the plan
 abbrev pub IsPlain : List Bytes → Plan → Type 0
-IsPlain words (plan.Solve formula log conflicts) = PlainSolve formula log conflicts words
+IsPlain words (plan.Solve formula log options) = PlainSolve formula log options words
 IsPlain words (plan.Check formula proof) = PlainCheck formula proof words
 IsPlain words (plan.Elab formula log proof) = PlainElab formula log proof words
 IsPlain words (plan.Model formula answer) = PlainModel formula answer words

@@ -27,7 +27,7 @@ Refuses words = (fault_of cxsat words ≢ []) ⊎ (plan_of words ≡ None)
 
 -- the numbers are in their ranges, and no two names are equal
 abbrev pub IsFit : Plan → Type 0
-IsFit (plan.Solve formula log conflicts) = (1 ≤ conflicts) × (conflicts ≤ 1000000000000000000) × IfSome log (λ l. formula ≢ l)
+IsFit (plan.Solve formula log options) = (1 ≤ options.conflicts) × (options.conflicts ≤ 1000000000000000000) × IfSome log (λ l. formula ≢ l)
 IsFit (plan.Check formula proof) = formula ≢ proof
 IsFit (plan.Elab formula log proof) = (formula ≢ log) × (formula ≢ proof) × (log ≢ proof)
 IsFit (plan.Model formula answer) = formula ≢ answer

@@ -23,6 +23,14 @@ fn optional<'a>(alloc: Global, id: &'a str) -> Arg<'a>
     Arg::new(alloc, id).long(id).action(ArgAction::Set)
 }
 
+/// An option without a value.
+fn flag<'a>(alloc: Global, id: &'a str) -> Arg<'a>
+    ensures rule { rule_of result ≡ line.flag id.entry.now }
+    ensures local { result.global ≡ false }
+{
+    Arg::new(alloc, id).long(id).action(ArgAction::SetTrue)
+}
+
 /// A command with words that have fixed places.
 fn taking<'a>(alloc: Global, name: &'a str, ids: &[&'a str]) -> Result<Command<'a>, AllocError>
     ensures { IfOk result (λ c. (app_of c ≡ line.command name.entry.now (map (λ id. line.needed id.now) ids.entry.now)) × ((fields_of c).has_globals ≡ false)) }
@@ -39,7 +47,8 @@ fn solve<'a>(alloc: Global) -> Result<Command<'a>, AllocError>
 {
     taking(alloc, "solve", &["formula"])?
         .arg(optional(alloc, "proof"))?
-        .arg(optional(alloc, "conflicts"))
+        .arg(optional(alloc, "conflicts"))?
+        .arg(flag(alloc, "inprocess"))
 }
 
 /// The command with one more command below it, where there was memory to make that one.

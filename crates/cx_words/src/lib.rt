@@ -16,6 +16,6 @@ mod words;
 pub use inst_gen::InstanceKind;
 pub use laws::{plain_words_are_taken, words_ask_for_one_plan};
 pub use name::Name;
-pub use plans::Plan;
+pub use plans::{Plan, SearchOptions};
 pub use refusal::PlanRefusal;
 pub use words::plan;

@@ -2,9 +2,9 @@
 ghost use Rattle.std.specs.Prelude.{◌≡◌, ◌≤◌, ◌&&◌, Some, None, if◌then◌else◌, nat_lt, nat_le, length, IfSome};
 ghost use Rattle.std.specs.List.{list_all};
 ghost use Rattle.std.specs.Char.{is_ascii_digit};
-ghost use Rattle.cx_words.specs.Given.{lent, number_in, conflicts_of, size_of, seed_of, kind_of, kind_named};
+ghost use Rattle.cx_words.specs.Given.{lent, number_in, conflicts_of, options_of, is_set, size_of, seed_of, kind_of, kind_named};
 
-use crate::InstanceKind;
+use crate::{InstanceKind, SearchOptions};
 
 /// The conflicts at which a search that is given no number of them stops.
 const DEFAULT_CONFLICTS: u64 = 1_000_000;
@@ -52,13 +52,35 @@ fn number(text: &str, least: u64, most: u64) -> Option<u64>
 }
 
 /// The number of conflicts, from 1 to 10^18.
-pub(crate) fn conflicts(text: Option<&str>) -> Option<u64>
+fn conflicts(text: Option<&str>) -> Option<u64>
     ensures { result ≡ conflicts_of (lent text.entry) }
 {
     match text {
         None => Some(DEFAULT_CONFLICTS),
         Some(text) => number(text, 1, MOST_CONFLICTS),
     }
+}
+
+/// Whether a flag is set. clap gives a flag a value, which is `true` where the flag is given.
+fn is_set(text: Option<&str>) -> bool
+    ensures { result ≡ is_set (lent text.entry) }
+{
+    match text {
+        None => false,
+        Some(text) => text == "true",
+    }
+}
+
+/// The options of a search, where its number of conflicts is in range.
+pub(crate) fn options(budget: Option<&str>, inprocess: Option<&str>) -> Option<SearchOptions>
+    ensures { result ≡ options_of (lent budget.entry) (lent inprocess.entry) }
+{
+    let conflicts = conflicts(budget)?;
+    let inprocess = is_set(inprocess);
+    Some(SearchOptions {
+        conflicts,
+        inprocess,
+    })
 }
 
 /// The size of an instance, from 4 to 2000.

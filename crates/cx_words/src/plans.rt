@@ -2,6 +2,15 @@
 use crate::Name;
 use inst_gen::InstanceKind;
 
+/// How long a search goes on, and whether it tidies its clauses.
+#[derive(Clone, Copy, Drop)]
+pub struct SearchOptions {
+    /// The number of conflicts at which the search stops: 1 to 10^18.
+    pub conflicts: u64,
+    /// Whether the search tidies its clauses at restarts.
+    pub inprocess: bool,
+}
+
 /// What a command is to do, with its names and numbers.
 #[derive(Drop)]
 pub enum Plan {
@@ -11,8 +20,8 @@ pub enum Plan {
         formula: Name,
         /// The file that the log is written to.
         log: Option<Name>,
-        /// The number of conflicts at which the search stops: 1 to 10^18.
-        conflicts: u64,
+        /// How it searches.
+        options: SearchOptions,
     },
     /// Judge a proof of a formula.
     Check {

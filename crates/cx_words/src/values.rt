@@ -3,7 +3,7 @@ ghost use Rattle.std.specs.Prelude.{◌≡◌, Some, IfOk};
 ghost use Rattle.clap.specs.Words.{first_of, rows_of, found_of};
 ghost use Rattle.cx_words.specs.Given.{lent, IsWanted, two_names, three_names, logged, solve_of, check_of, elab_of, model_of, demo_of, trim_of, blast_of, affine_of, planned};
 
-use crate::numbers::{conflicts, kind, seed, size};
+use crate::numbers::{kind, options, seed, size};
 use crate::{Name, Plan, PlanRefusal};
 use clap::ArgMatches;
 use std::alloc::{AllocError, Global};
@@ -65,20 +65,21 @@ fn solve(
     formula: Option<&str>,
     log: Option<&str>,
     budget: Option<&str>,
+    inprocess: Option<&str>,
 ) -> Result<Plan, PlanRefusal>
-    ensures { IsWanted (solve_of (lent formula.entry) (lent log.entry) (lent budget.entry)) result }
+    ensures { IsWanted (solve_of (lent formula.entry) (lent log.entry) (lent budget.entry) (lent inprocess.entry)) result }
 {
     let Some(formula) = formula else {
         return Err(PlanRefusal::Usage);
     };
     let (formula, log) = logged(alloc, formula, log)?;
-    let Some(conflicts) = conflicts(budget) else {
+    let Some(options) = options(budget, inprocess) else {
         return Err(PlanRefusal::Usage);
     };
     Ok(Plan::Solve {
         formula,
         log,
-        conflicts,
+        options,
     })
 }
 
@@ -190,7 +191,13 @@ pub(crate) fn planned(
     let log = value(found, "log");
     let proof = value(found, "proof");
     match command {
-        "solve" => solve(alloc, formula, proof, value(found, "conflicts")),
+        "solve" => solve(
+            alloc,
+            formula,
+            proof,
+            value(found, "conflicts"),
+            value(found, "inprocess"),
+        ),
         "check" => check(alloc, formula, proof),
         "elab" => elab(alloc, formula, log, proof),
         "model" => model(alloc, formula, value(found, "answer")),

@@ -1,10 +1,10 @@
 //! Command lines, and what they ask for.
-use cx_words::{InstanceKind, Name, Plan, PlanRefusal, plan};
+use cx_words::{InstanceKind, Name, Plan, PlanRefusal, SearchOptions, plan};
 use std::alloc::{AllocError, Global};
 use std::test::Fail;
 
 /// Command lines with one blank between two words, and the plans that they ask for.
-const TAKEN: [(&str, &str); 52] = [
+const TAKEN: [(&str, &str); 58] = [
     ("cxsat solve f", "solve f 1000000"),
     ("cxsat solve -", "solve - 1000000"),
     ("cxsat solve f --proof l", "solve f 1000000 to l"),
@@ -28,6 +28,21 @@ const TAKEN: [(&str, &str); 52] = [
     (
         "cxsat solve f --conflicts 0000000000000000000000000000000000000009",
         "solve f 9",
+    ),
+    ("cxsat solve f --inprocess", "solve f 1000000 tidying"),
+    ("cxsat solve --inprocess f", "solve f 1000000 tidying"),
+    ("cxsat solve - --inprocess", "solve - 1000000 tidying"),
+    (
+        "cxsat solve --proof l --inprocess f --conflicts 7",
+        "solve f 7 tidying to l",
+    ),
+    (
+        "cxsat solve --inprocess --conflicts 7 --proof l f",
+        "solve f 7 tidying to l",
+    ),
+    (
+        "cxsat solve f --proof l --conflicts 7 --inprocess",
+        "solve f 7 tidying to l",
     ),
     ("cxsat solve solve", "solve solve 1000000"),
     ("cxsat solve f --proof=l", "solve f 1000000 to l"),
@@ -69,7 +84,7 @@ const TAKEN: [(&str, &str); 52] = [
 ];
 
 /// Command lines that ask for nothing.
-const REFUSED: [&str; 83] = [
+const REFUSED: [&str; 91] = [
     "",
     "cxsat",
     "cxsat --help",
@@ -95,6 +110,14 @@ const REFUSED: [&str; 83] = [
     "cxsat solve f --proof l --proof l",
     "cxsat solve f --proof l --proof m",
     "cxsat solve f --conflicts 7 --conflicts 7",
+    "cxsat solve f --inprocess --inprocess",
+    "cxsat solve f --inprocess=true",
+    "cxsat solve f --inprocess true",
+    "cxsat solve f --proof --inprocess",
+    "cxsat solve f --inproc",
+    "cxsat solve --inprocess",
+    "cxsat --inprocess solve f",
+    "cxsat check f p --inprocess",
     "cxsat solve f --proof f",
     "cxsat solve - --proof -",
     "cxsat solve f --conflicts 0",
@@ -184,12 +207,14 @@ fn solve_line(
     alloc: Global,
     formula: &Name,
     log: &Option<Name>,
-    conflicts: u64,
+    options: SearchOptions,
 ) -> Result<String, AllocError> {
+    let conflicts = options.conflicts;
+    let tidying = if options.inprocess { " tidying" } else { "" };
     match log {
-        None => format!(in alloc; "solve {} {conflicts}", formula.as_str()),
+        None => format!(in alloc; "solve {} {conflicts}{tidying}", formula.as_str()),
         Some(log) => format!(in alloc;
-            "solve {} {conflicts} to {}",
+            "solve {} {conflicts}{tidying} to {}",
             formula.as_str(),
             log.as_str()
         ),
@@ -202,8 +227,8 @@ fn shown(alloc: Global, plan: &Plan) -> Result<String, AllocError> {
         Plan::Solve {
             formula,
             log,
-            conflicts,
-        } => solve_line(alloc, formula, log, *conflicts),
+            options,
+        } => solve_line(alloc, formula, log, *options),
         Plan::Check { formula, proof } => line(alloc, &["check", formula.as_str(), proof.as_str()]),
         Plan::Elab {
             formula,

@@ -1,5 +1,5 @@
 use Rattle.std.proofs.Common.{take, fold}
-use Rattle.clap.specs.Words.{App, new_app, with_rule}
+use Rattle.clap.specs.Words.{new_app, with_rule}
 use Rattle.cx_words.specs.CommandLine as line
 use Rattle.cx_words.proofs.Builds.{IsMade}
 use Rattle.cx_words.proofs.commands.taking.Given as goal
