@@ -33,6 +33,8 @@ mod schedule;
 #[cfg(test)]
 mod solve;
 #[cfg(test)]
+mod tidying;
+#[cfg(test)]
 mod trim;
 #[cfg(test)]
 mod unused;

@@ -7,7 +7,7 @@ use std::test::Fail;
 
 /// Counted conflicts, in hundreds up to 50, after which a restart is due: the sums of the sequence of Luby, Sinclair and
 /// Zuckerman, 1 1 2 1 1 2 4 1 1 2 1 1 2 4 8 and so on.
-const RESTARTS: [u64; 27] = [
+pub(crate) const RESTARTS: [u64; 27] = [
     1, 2, 4, 5, 6, 8, 12, 13, 14, 16, 17, 18, 20, 24, 32, 33, 34, 36, 37, 38, 40, 44, 45, 46, 48,
     49, 50,
 ];

@@ -125,6 +125,29 @@ const ANSWERS: [Case; 14] = [
     ),
 ];
 
+/// Runs `solve --inprocess` with a budget and a file for the log. Writes how it ended, unless it gave the same answer.
+fn put_other_tidied(alloc: Global, others: &mut String, case: &Case) -> Result<(), AllocError> {
+    let (formula, budget, status, answer) = *case;
+    let line = [
+        "cxsat",
+        "solve",
+        "--inprocess",
+        "f",
+        "--proof",
+        "l",
+        "--conflicts",
+        budget,
+    ];
+    let task = Task {
+        line: line.as_slice(),
+        formula,
+        second: "",
+    };
+    let ended = run_task(alloc, task, AMPLE)?;
+    let is_right = answers(&ended, status, answer);
+    put_unless(alloc, others, task, &ended, is_right)
+}
+
 /// Formulas with assumption constraints: the literals that fail come by rising variables, and the two of a variable that is assumed with both signs.
 const ASSUMED: [Case; 10] = [
     (
@@ -448,6 +471,19 @@ fn marks(alloc: Global, formula: &str) -> Result<bool, AllocError> {
     let line = ["cxsat", "solve", "f", "--conflicts", "1"];
     let solved = run(alloc, formula, b"", line.as_slice(), AMPLE)?;
     Ok(has_mark(solved.proof()))
+}
+
+#[test]
+fn tidying_gives_the_same_answers(rt: HostRuntime) -> Result<(), Fail> {
+    let mut others = String::new(rt.alloc());
+    for case in &ANSWERS {
+        put_other_tidied(rt.alloc(), &mut others, case)?;
+    }
+    for case in &ASSUMED {
+        put_other_tidied(rt.alloc(), &mut others, case)?;
+    }
+    assert_eq!(rt; others.as_str(), "");
+    Ok(())
 }
 
 #[test]

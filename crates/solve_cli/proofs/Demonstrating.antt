@@ -40,7 +40,7 @@ use Rattle.solve_cli.specs.declared.ending.Outcome.{Outcome}
 use Rattle.solve_cli.specs.declared.ending.Outcome.TheVariants as outcome
 use Rattle.solve_cli.specs.Seen.{Seen, seen, says}
 use Rattle.solve_cli.specs.Commands.{formula_started, proof_created}
-use Rattle.solve_cli.specs.Demo.{demo_budget, instance_of, Stands, IsVerifiedLog, IsProofOfLog}
+use Rattle.solve_cli.specs.Demo.{demo_options, instance_of, Stands, IsVerifiedLog, IsProofOfLog}
 use Rattle.solve_cli.specs.Happens.{Ends, Stops, Works, WorksFor}
 use Rattle.solve_cli.specs.Logs.{IsRefutation, IsLogSoFar}
 use Rattle.solve_cli.specs.Solving.{ComesTo}
@@ -98,7 +98,7 @@ verified_log f text log proof reads printed h = (
 
 -- ---- the writes
 
-module _ (kind : InstanceKind) (size seed limit : ℕ) (events : List LogEvent) (e : Ending) (w : Option Files) (mid : Outside) (finds : ComesTo (planted_formula kind size seed) demo_budget events e) where
+module _ (kind : InstanceKind) (size seed limit : ℕ) (events : List LogEvent) (e : Ending) (w : Option Files) (mid : Outside) (finds : ComesTo (planted_formula kind size seed) demo_options (printed_log events) e) where
   abbrev F : Problem
   F = planted_formula kind size seed
 
@@ -115,7 +115,7 @@ module _ (kind : InstanceKind) (size seed limit : ℕ) (events : List LogEvent) 
   }
 
   front : (k : ℕ) → IsLogSoFar F (take k (printed_log events))
-  front k = let have = found F demo_budget events e finds in front_so_far F (printed_log events) k (is_right F demo_budget (printed_log events) e have) (has_low_ids F demo_budget (printed_log events) e have) (has_no_mark F demo_budget (printed_log events) e have)
+  front k = let have = found F demo_options (printed_log events) e finds in front_so_far F (printed_log events) k (is_right F demo_options (printed_log events) e have) (has_low_ids F demo_options (printed_log events) e have) (has_no_mark F demo_options (printed_log events) e have)
 
   -- a prefix of the log was written
   pub demo_cut : (new : Outside) → (k : ℕ) × (k < length (printed_log events)) × WriteFaulted (gained port.Proof (take k (printed_log events)) mid) new → Works Demo limit (seen w mid) outcome.WriteFault (seen w new)
@@ -125,8 +125,8 @@ module _ (kind : InstanceKind) (size seed limit : ℕ) (events : List LogEvent) 
   -- the log was written, and memory ran out after it
   pub demo_wanted : (at : Outside) → at ≡ gained port.Proof (printed_log events) mid → Works Demo limit (seen w mid) outcome.Memory (seen w at)
   demo_wanted at moved =
-      let have = found F demo_budget events e finds in
-      let whole : IsLogSoFar F (printed_log events) = record { log = printed_log events; right = is_right F demo_budget (printed_log events) e have; ids = has_low_ids F demo_budget (printed_log events) e have; settled = has_no_mark F demo_budget (printed_log events) e have; rest = []; front = append-nil (printed_log events) } in
+      let have = found F demo_options (printed_log events) e finds in
+      let whole : IsLogSoFar F (printed_log events) = record { log = printed_log events; right = is_right F demo_options (printed_log events) e have; ids = has_low_ids F demo_options (printed_log events) e have; settled = has_no_mark F demo_options (printed_log events) e have; rest = []; front = append-nil (printed_log events) } in
       subst (λ (s : Seen). Stops Demo limit (seen w mid) s) (sym (ap (seen w) moved)) (stops (printed_log events) whole)
 
   -- the log was written, and the lines or a prefix of them

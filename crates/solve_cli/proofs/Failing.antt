@@ -18,15 +18,15 @@ use Rattle.cx_base.specs.declared.constraint.Constraint.TheVariants as constrain
 use Rattle.cx_base.specs.declared.steps.LogEvent.{LogEvent}
 use Rattle.cx_base.specs.declared.steps.LogEvent.TheVariants.{Step}
 use Rattle.cx_base.proofs.Parts.{both_kinds}
-use Rattle.cx_texts.specs.Printed.{HasText, printed_log}
-use Rattle.cx_texts.specs.LogText.{LogReads}
+use Rattle.cx_texts.specs.LogText.{EventsRead, LogReads}
+use Rattle.cx_texts.proofs.EventSteps.{events_give_steps}
 use Rattle.cx_base.specs.Endings.{finished}
+use Rattle.cx_desk.specs.Outside.{Bytes}
 use Rattle.cx_semantics.specs.Chain.{has_literal, HaveSame}
 use Rattle.cx_semantics.proofs.Members.{has_at_head, has_behind, has_split}
-use Rattle.cdcl_core.specs.Results.{Refutes, EndsFor}
+use Rattle.cdcl_core.specs.Results.{RefutesIn, EndsFor}
 use Rattle.cdcl_core.proofs.SortedLiterals.{sorted_found}
 use Rattle.solve_cli.specs.Failed.{has_assumption, AreRising, AreInOrder, FailsAs, NegatesLastStep}
-use Rattle.solve_cli.proofs.Logging.{steps_read}
 
 -- ---- the number of assumption constraints
 
@@ -176,8 +176,8 @@ same_fail formula lits others same f = record {
   unmet = λ v m. f.unmet v (same_meets formula lits others v same m);
 }
 
-module _ (formula : Problem) (budget : ℕ) (failed : List Literal) where
-  pub fails_as : (told : Option (List ℤ)) (events : Option (List LogEvent)) → Refutes formula budget events failed → AreInOrder formula failed told → FailsAs formula told
+module _ (tidies : Bool) (formula : Problem) (budget : ℕ) (failed : List Literal) where
+  pub fails_as : (told : Option (List ℤ)) (events : Option (List LogEvent)) → RefutesIn tidies formula budget events failed → AreInOrder formula failed told → FailsAs formula told
   fails_as None events r h = h
   fails_as (Some zs) events r h = (
     h.0,
@@ -193,9 +193,9 @@ module _ (formula : Problem) (budget : ℕ) (failed : List Literal) where
   )
 
   -- they are of the log's last step
-  pub negates_last : (told : Option (List ℤ)) (events : List LogEvent) → AllByRecursion HasText events → EndsFor formula events failed → AreInOrder formula failed told → NegatesLastStep formula (printed_log events) told
-  negates_last None events texts e h = tt
-  negates_last (Some zs) events texts e h = λ apart.
+  pub negates_last : (told : Option (List ℤ)) (log : Bytes) (events : List LogEvent) → EventsRead log events finished → EndsFor formula events failed → AreInOrder formula failed told → NegatesLastStep formula log told
+  negates_last None log events read e h = tt
+  negates_last (Some zs) log events read e h = λ apart.
       let last = e.last apart in
       let steps : steps_of events ≡ steps_of last.0 ++ last.1 ∷ [] = ap steps_of last.2 ∙ filter_map-append step_of last.0 (Step last.1 ∷ []) in
       record {
@@ -203,6 +203,6 @@ module _ (formula : Problem) (budget : ℕ) (failed : List Literal) where
         are = h.1.1;
         before = steps_of last.0;
         last = last.1;
-        reads = subst (λ ss. LogReads (printed_log events) ss finished) steps (steps_read events texts);
+        reads = subst (λ ss. LogReads log ss finished) steps (events_give_steps log events read);
         same = λ l. h.1.3 l ∙ ap (λ ls. has_literal ls l) last.3;
       }

@@ -24,6 +24,7 @@ use Rattle.cx_judgements.specs.LogTexts.{LogRight, LogJudgedAs}
 use Rattle.cx_judgements.proofs.OneJudgement.{one_log_judgement}
 use Rattle.cx_desk.specs.Outside.{Bytes, Written}
 use Rattle.cx_words.specs.declared.plans.Plan.TheVariants as plan
+use Rattle.cx_words.specs.declared.plans.SearchOptions.{SearchOptions}
 use Rattle.cx_words.proofs.PlanLaws.{one_plan}
 use Rattle.search_steps.specs.Hints.{AreHintsFor, AreHinted}
 use Rattle.fratx_elab.specs.Elaborates.{IsProofOf, IsWrittenAsGiven}
@@ -57,8 +58,8 @@ same_steps text a b e d p q =
     ap (λ (x : List LogStep × Ending). x.0) (same_of_one {P = λ (x : List LogStep × Ending). LogReads text x.0 x.1} (one_log_reading text) (a, e) (b, d) p q)
 
 -- the proof of the log that a search closed
-has_log_hints : (formula : Problem) (budget k : ℕ) (log bytes : Bytes) → IsClosedLog formula budget log → LogRight formula log k → IsWholeProof formula log k bytes → HasLogHints formula log bytes
-has_log_hints formula budget k log bytes closed right whole =
+has_log_hints : (formula : Problem) (options : SearchOptions) (k : ℕ) (log bytes : Bytes) → IsClosedLog formula options log → LogRight formula log k → IsWholeProof formula log k bytes → HasLogHints formula log bytes
+has_log_hints formula options k log bytes closed right whole =
     let refutes = closed.refutes in
     let marks = closed.marks in
     let read = events_give_steps log marks.events marks.read in
@@ -81,16 +82,16 @@ pub logs_keep_hints : LogsKeepHints
 logs_keep_hints words more limit bound files others written last f log g l q n t asked u elab_asked same_text same_log =
     let told = of_told _ t.old.files files t.told (t.run.no_values_meet refl) in
     let r = told.1 in
-    let plans : plan.Solve r.name r.log_name r.budget ≡ plan.Solve f (Some log) n = one_plan words (plan.Solve r.name r.log_name r.budget) (plan.Solve f (Some log) n) r.asked asked in
+    let plans : plan.Solve r.name r.log_name r.options ≡ plan.Solve f (Some log) n = one_plan words (plan.Solve r.name r.log_name r.options) (plan.Solve f (Some log) n) r.asked asked in
     let name : r.name ≡ f = cc in
     let log_name : r.log_name ≡ Some log = cc in
     let reads : Reads (text_named g others) r.formula = subst (λ (x : Bytes). Reads x r.formula) (sym same_text) (subst (λ (x : Bytes). Reads (text_named x files) r.formula) name r.reads) in
     let done = subst (λ (x : Option Bytes). t.new ≡ solved r.name x r.log (unsatisfiable_text told.0) t.old) log_name r.done in
     let is : written.proof ≡ r.log = log_is r.name log r.log (unsatisfiable_text told.0) t.old t.new written done t.left in
-    let closed = subst (IsClosedLog r.formula r.budget) (sym is) r.holds.2 in
+    let closed = subst (IsClosedLog r.formula r.options) (sym is) r.holds.2 in
     let ended = of_told _ u.old.files others u.told (u.run.log_is_elaborated refl g l q elab_asked) in
     let same = one_formula (text_named g others) ended.0 r.formula ended.1.reads reads in
     let right = subst (λ (p : Problem). LogRight p written.proof ended.2.0) same (subst (λ (x : Bytes). LogRight ended.0 x ended.2.0) same_log ended.2.1) in
     let left = subst (λ (w : Written). IsWholeProof ended.0 (text_named l others) ended.2.0 w.proof) u.left ended.2.2 in
     let whole = subst (λ (p : Problem). IsWholeProof p written.proof ended.2.0 last.proof) same (subst (λ (x : Bytes). IsWholeProof ended.0 x ended.2.0 last.proof) same_log left) in
-    (r.formula, reads, has_log_hints r.formula r.budget ended.2.0 written.proof last.proof closed right whole)
+    (r.formula, reads, has_log_hints r.formula r.options ended.2.0 written.proof last.proof closed right whole)

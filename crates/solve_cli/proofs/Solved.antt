@@ -15,6 +15,7 @@ use Rattle.cx_desk.specs.Outside.{Bytes, Files}
 use Rattle.cx_words.specs.Words.{Asks}
 use Rattle.cx_words.specs.declared.plans.Plan.{Plan}
 use Rattle.cx_words.specs.declared.plans.Plan.TheVariants as plan
+use Rattle.cx_words.specs.declared.plans.SearchOptions.{SearchOptions}
 use Rattle.solve_cli.specs.declared.ending.Ending.{Ending}
 use Rattle.solve_cli.specs.declared.ending.Ending.TheVariants as ending
 use Rattle.solve_cli.specs.declared.ending.Outcome.{Outcome}
@@ -101,12 +102,12 @@ not_due e search p other limit files due =
 record Did (words : List Bytes) (limit : ℕ) (old : Seen) (files : Files) (new : Seen) (e : Ending) : Type 0 where
   name : Bytes
   log_name : Option Bytes
-  budget : ℕ
-  asked : Asks words (plan.Solve name log_name budget)
+  options : SearchOptions
+  asked : Asks words (plan.Solve name log_name options)
   log : Bytes
   done : new ≡ solved name log_name log (answer_text e) old
-  judged : (f : Problem) → Reads (text_named name files) f → Judged e (plan.Solve name log_name budget) f []
-  gains : Gains (plan.Solve name log_name budget) limit files e log
+  judged : (f : Problem) → Reads (text_named name files) f → Judged e (plan.Solve name log_name options) f []
+  gains : Gains (plan.Solve name log_name options) limit files e log
 
 under : {X A : Type 0} (P : X → Type 0) (w : Option X) → (A → IfSome w P) → IfSome w (λ x. A → P x)
 under P None h = tt
@@ -120,7 +121,7 @@ module _ (words : List Bytes) (limit : ℕ) (old : Seen) (s : Status) (new : See
       if_some_both old.files w.1.due w.1.gains (λ files due gains. record {
         name = n;
         log_name = l;
-        budget = c;
+        options = c;
         asked = asks;
         log = w.1.proof;
         done = told ∙ (w.2 ∙ ap (says port.Answer (answer_text e)) before);
@@ -138,12 +139,12 @@ module _ (words : List Bytes) (limit : ℕ) (old : Seen) (s : Status) (new : See
   did_end : (e : Ending) → Search e → h.outcome ≡ outcome.Ended e → IfSome old.files (λ files. Did words limit old files new e)
   did_end e search is = let w = subst (λ (o : Outcome). WorksFor words limit old o h.done) is h.works in did e search is w.0 w.1 w.2
 
-  has_solved : (e : Ending) (files : Files) (d : Did words limit old files new e) (answer : ℕ → Bytes) (Holds : Problem → ℕ → Bytes → Type 0) (f : Problem)
-      → Reads (text_named d.name files) f → answer_text e ≡ answer d.budget → Holds f d.budget d.log → HasSolved words old files new answer Holds
+  has_solved : (e : Ending) (files : Files) (d : Did words limit old files new e) (answer : SearchOptions → Bytes) (Holds : Problem → SearchOptions → Bytes → Type 0) (f : Problem)
+      → Reads (text_named d.name files) f → answer_text e ≡ answer d.options → Holds f d.options d.log → HasSolved words old files new answer Holds
   has_solved e files d answer Holds f reads text holds = record {
     name = d.name;
     log_name = d.log_name;
-    budget = d.budget;
+    options = d.options;
     asked = d.asked;
     formula = f;
     reads = reads;
@@ -169,7 +170,7 @@ module _ (words : List Bytes) (limit : ℕ) (old : Seen) (s : Status) (new : See
       (is.0, has_solved (ending.Unsatisfiable is.0) files d _ _ d.gains.0 d.gains.1.reads (none_text is.0) (j.0, j.1, d.gains.2, d.gains.3)))
 
   -- status 0 of `solve`
-  module _ (n : Bytes) (l : Option Bytes) (c : ℕ) (asks : Asks words (plan.Solve n l c)) where
+  module _ (n : Bytes) (l : Option Bytes) (c : SearchOptions) (asks : Asks words (plan.Solve n l c)) where
     search_ended : (e : Ending) → h.outcome ≡ outcome.Ended e → IfSome old.files (λ files. Due (plan.Solve n l c) limit files e)
     search_ended e is = (ended words limit old s new h (plan.Solve n l c) e asks is).1.due
 
@@ -201,7 +202,7 @@ module _ (words : List Bytes) (limit : ℕ) (old : Seen) (s : Status) (new : See
         let is = outcome_of status.Satisfiable h.outcome (sym e ∙ h.status_is) in
         IfSome_then old.files (search_ended (ending.Satisfiable is.0) is.1) (λ files due. λ f reads. (is.0, judged_of (plan.Solve n l c) n limit files f (ending.Satisfiable is.0) refl refl due reads))
 
-  pub spent_budget : (n : Bytes) (l : Option Bytes) (c : ℕ) → Asks words (plan.Solve n l c) → s ≡ status.Done → IsSpent words old new
+  pub spent_budget : (n : Bytes) (l : Option Bytes) (c : SearchOptions) → Asks words (plan.Solve n l c) → s ≡ status.Done → IsSpent words old new
   spent_budget n l c asks e = let d = outcome_of status.Done h.outcome (sym e ∙ h.status_is) in done_is n l c asks _ d.0 d.2 d.1 (spent_end n l c asks)
 
   pub settled_with_recovered : IsSettledWithRecovered words old s

@@ -37,7 +37,7 @@ finds_values : (words : List Bytes) (limit : ℕ) (files : Files) (s : Status) (
 finds_values words limit files s written (plan.Solve n l c) name t asked named is =
     let told = of_told _ t.old.files files t.told (t.run.values_meet is) in
     let r = told.1 in
-    let plans : plan.Solve r.name r.log_name r.budget ≡ plan.Solve n l c = one_plan words (plan.Solve r.name r.log_name r.budget) (plan.Solve n l c) r.asked asked in
+    let plans : plan.Solve r.name r.log_name r.options ≡ plan.Solve n l c = one_plan words (plan.Solve r.name r.log_name r.options) (plan.Solve n l c) r.asked asked in
     let of_r : formula_of (plan.Solve n l c) ≡ Some r.name = sym (ap formula_of plans) in
     at_name HasValues files (plan.Solve n l c) r.name name of_r named (r.formula, r.reads, (told.0, r.holds.0))
 finds_values words limit files s written (plan.Model n a) name t asked named is =
@@ -50,7 +50,7 @@ finds_none : (words : List Bytes) (limit : ℕ) (files : Files) (s : Status) (wr
 finds_none words limit files s written (plan.Solve n l c) name t asked named is =
     let told = of_told _ t.old.files files t.told (t.run.no_values_meet is) in
     let r = told.1 in
-    let plans : plan.Solve r.name r.log_name r.budget ≡ plan.Solve n l c = one_plan words (plan.Solve r.name r.log_name r.budget) (plan.Solve n l c) r.asked asked in
+    let plans : plan.Solve r.name r.log_name r.options ≡ plan.Solve n l c = one_plan words (plan.Solve r.name r.log_name r.options) (plan.Solve n l c) r.asked asked in
     let of_r : formula_of (plan.Solve n l c) ≡ Some r.name = sym (ap formula_of plans) in
     at_name Unmet files (plan.Solve n l c) r.name name of_r named (r.formula, r.reads, r.holds.0)
 finds_none words limit files s written (plan.Check n q) name t asked named is =

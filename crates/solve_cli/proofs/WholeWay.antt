@@ -140,7 +140,7 @@ pub logs_elaborate : LogsElaborate
 logs_elaborate words more limit bound files others s written last f log g l q n t asked u elab_asked same_text same_log =
     let told = of_told _ t.old.files files t.told (t.run.no_values_meet refl) in
     let r = told.1 in
-    let plans : plan.Solve r.name r.log_name r.budget ≡ plan.Solve f (Some log) n = one_plan words (plan.Solve r.name r.log_name r.budget) (plan.Solve f (Some log) n) r.asked asked in
+    let plans : plan.Solve r.name r.log_name r.options ≡ plan.Solve f (Some log) n = one_plan words (plan.Solve r.name r.log_name r.options) (plan.Solve f (Some log) n) r.asked asked in
     let name : r.name ≡ f = cc in
     let log_name : r.log_name ≡ Some log = cc in
     let reads : Reads (text_named g others) r.formula = subst (λ (x : Bytes). Reads x r.formula) (sym same_text) (subst (λ (x : Bytes). Reads (text_named x files) r.formula) name r.reads) in

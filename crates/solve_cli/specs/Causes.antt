@@ -12,6 +12,7 @@ use Rattle.cx_desk.specs.Outside.{Bytes, Files}
 use Rattle.cx_words.specs.Words.{Asks}
 use Rattle.cx_words.specs.declared.plans.Plan.{Plan}
 use Rattle.cx_words.specs.declared.plans.Plan.TheVariants as plan
+use Rattle.cx_words.specs.declared.plans.SearchOptions.{SearchOptions}
 use Rattle.xor_blast.specs.Blasted.{PassesLimit}
 use Rattle.solve_cli.specs.declared.ending.WrongAnswer.{WrongAnswer}
 use Rattle.solve_cli.specs.declared.ending.Status.TheVariants as status
@@ -72,7 +73,7 @@ IsAnswerRefused words limit old = (name : Bytes) × (answer : Bytes) × Asks wor
 
 -- 10 and 20 are of `solve`
 abbrev pub IsOfSolve : List Bytes → Type 0
-IsOfSolve words = (name : Bytes) × (log : Option Bytes) × (budget : ℕ) × Asks words (plan.Solve name log budget)
+IsOfSolve words = (name : Bytes) × (log : Option Bytes) × (options : SearchOptions) × Asks words (plan.Solve name log options)
 
 -- 0 of `check`: the proof is accepted, and no values meet the formula
 abbrev pub IsVerified : List Bytes → ℕ → Seen → Type 0

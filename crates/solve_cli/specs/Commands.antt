@@ -11,7 +11,7 @@ use Rattle.solve_cli.specs.Seen.{Seen, asks, creates, text_named}
 
 -- the formula's file
 abbrev pub formula_of : Plan → Option Bytes
-formula_of (plan.Solve formula log conflicts) = Some formula
+formula_of (plan.Solve formula log options) = Some formula
 formula_of (plan.Check formula proof) = Some formula
 formula_of (plan.Elab formula log proof) = Some formula
 formula_of (plan.Model formula answer) = Some formula
@@ -22,7 +22,7 @@ formula_of (plan.Affine formula) = Some formula
 
 -- the file of the text that is judged
 abbrev pub second_of : Plan → Option Bytes
-second_of (plan.Solve formula log conflicts) = None
+second_of (plan.Solve formula log options) = None
 second_of (plan.Check formula proof) = Some proof
 second_of (plan.Elab formula log proof) = Some log
 second_of (plan.Model formula answer) = Some answer
@@ -33,7 +33,7 @@ second_of (plan.Affine formula) = None
 
 -- the file that the Proof port is given
 abbrev pub proof_of : Plan → Option Bytes
-proof_of (plan.Solve formula log conflicts) = log
+proof_of (plan.Solve formula log options) = log
 proof_of (plan.Check formula proof) = None
 proof_of (plan.Elab formula log proof) = Some proof
 proof_of (plan.Model formula answer) = None
@@ -44,7 +44,7 @@ proof_of (plan.Affine formula) = None
 
 -- the commands that write on the Proof port, with a file or without
 abbrev pub writes_proof : Plan → Bool
-writes_proof (plan.Solve formula log conflicts) = true
+writes_proof (plan.Solve formula log options) = true
 writes_proof (plan.Check formula proof) = false
 writes_proof (plan.Elab formula log proof) = true
 writes_proof (plan.Model formula answer) = false

@@ -1,5 +1,5 @@
 -- The demonstration: what it prints of a planted instance, and the log that comes before it.
-use Rattle.std.specs.Prelude.{◌≡◌, ℕ, ◌^◌, Bool, List, length, IfSome, ⊤}
+use Rattle.std.specs.Prelude.{◌≡◌, ℕ, ◌^◌, Bool, false, List, length, IfSome, ⊤}
 use Rattle.cx_base.specs.Problem.{Problem, Meets, Unmet, clauses_of, parities_of}
 use Rattle.cx_base.specs.declared.steps.LogStep.{LogStep}
 use Rattle.cx_base.specs.declared.steps.ProofStep.{ProofStep}
@@ -13,6 +13,7 @@ use Rattle.cx_desk.specs.declared.desk.Port.TheVariants as port
 use Rattle.cx_desk.specs.Outside.{Bytes}
 use Rattle.cx_words.specs.Words.{Asks}
 use Rattle.cx_words.specs.declared.plans.Plan.TheVariants as plan
+use Rattle.cx_words.specs.declared.plans.SearchOptions.{SearchOptions}
 use Rattle.solve_cli.specs.declared.ending.Instance.{Instance}
 use Rattle.solve_cli.specs.declared.ending.Shown.{Shown}
 use Rattle.solve_cli.specs.declared.ending.Shown.TheVariants as shown
@@ -24,6 +25,10 @@ use Rattle.solve_cli.specs.Proofs.{IsWholeProof}
 -- the conflicts at which the search stops
 abbrev pub demo_budget : ℕ
 demo_budget = 10 ^ 18
+
+-- how its search goes on: it does not tidy
+abbrev pub demo_options : SearchOptions
+demo_options = record { conflicts = demo_budget; inprocess = false }
 
 -- what is printed of the instance of a kind, a size and a seed
 abbrev pub instance_of : InstanceKind → ℕ → ℕ → Instance
@@ -57,9 +62,9 @@ IsVerifiedLog formula log = (k : ℕ) × (proof : Bytes) × IsWholeProof formula
 
 -- and of the log after which it is printed
 abbrev pub StandsBehind : Problem → Bytes → Shown → Type 0
-StandsBehind formula log shown.Meet = IsOpenLog formula demo_budget log
-StandsBehind formula log shown.Verified = IsClosedLog formula demo_budget log × IsVerifiedLog formula log
-StandsBehind formula log shown.Unknown = IsSpentLog formula demo_budget log
+StandsBehind formula log shown.Meet = IsOpenLog formula demo_options log
+StandsBehind formula log shown.Verified = IsClosedLog formula demo_options log × IsVerifiedLog formula log
+StandsBehind formula log shown.Unknown = IsSpentLog formula demo_options log
 
 -- The Proof port gained the log of a search of the instance, then the Answer port what that shows. No file was asked for.
 pub record HasDemonstrated (kind : InstanceKind) (size seed : ℕ) (old new : Seen) : Type 0 where

@@ -25,7 +25,7 @@ use Rattle.solve_cli.specs.Solved.{IsSatisfied, IsRefuted, IsSpent, IsSettled, I
 abbrev pub is_reader : Plan → Bool
 is_reader (plan.Check name proof) = true
 is_reader (plan.Model name answer) = true
-is_reader (plan.Solve name log budget) = false
+is_reader (plan.Solve name log options) = false
 is_reader (plan.Elab name log proof) = false
 is_reader (plan.Demo kind size seed) = false
 is_reader (plan.Trim name proof out) = false

@@ -1,5 +1,5 @@
 -- What the answers of `solve` say.
-use Rattle.std.specs.Prelude.{◌≡◌, ◌≢◌, ℕ, ℤ, Bool, List, [], ◌∷◌, Option, IfSome, codes, decimal}
+use Rattle.std.specs.Prelude.{◌≡◌, ◌≢◌, ℤ, Bool, List, [], ◌∷◌, Option, IfSome, codes, decimal}
 use Rattle.cx_base.specs.Problem.{Problem, Meets, Unmet, parities_of}
 use Rattle.cx_texts.specs.AnswerText as printed
 use Rattle.cx_semantics.specs.Forced.{Consistent}
@@ -11,6 +11,7 @@ use Rattle.cx_desk.specs.declared.desk.Port.TheVariants as port
 use Rattle.cx_desk.specs.Outside.{Bytes, Files}
 use Rattle.cx_words.specs.Words.{Asks}
 use Rattle.cx_words.specs.declared.plans.Plan.TheVariants as plan
+use Rattle.cx_words.specs.declared.plans.SearchOptions.{SearchOptions}
 use Rattle.solve_cli.specs.declared.ending.Status.{Status}
 use Rattle.solve_cli.specs.declared.ending.Status.TheVariants as status
 use Rattle.solve_cli.specs.Endings.{joined}
@@ -24,36 +25,36 @@ use Rattle.solve_cli.specs.Logs.{IsOpenLog, IsClosedLog, IsSpentLog}
 abbrev pub solved : Bytes → Option Bytes → Bytes → Bytes → Seen → Seen
 solved name log_name log answer s = says port.Answer answer (says port.Proof log (gives_file log_name (asks slot.Formula name s)))
 
--- the words ask for `solve`, this answer of the budget was written after a log, and this holds of the formula, the budget and the log
-pub record HasSolved (words : List Bytes) (old : Seen) (files : Files) (new : Seen) (answer : ℕ → Bytes) (Holds : Problem → ℕ → Bytes → Type 0) : Type 0 where
+-- the words ask for `solve`, this answer of the options was written after a log, and this holds of the formula, the options and the log
+pub record HasSolved (words : List Bytes) (old : Seen) (files : Files) (new : Seen) (answer : SearchOptions → Bytes) (Holds : Problem → SearchOptions → Bytes → Type 0) : Type 0 where
   pub name : Bytes
   pub log_name : Option Bytes
-  pub budget : ℕ
-  pub asked : Asks words (plan.Solve name log_name budget)
+  pub options : SearchOptions
+  pub asked : Asks words (plan.Solve name log_name options)
   pub formula : Problem
   pub reads : Reads (text_named name files) formula
   pub log : Bytes
-  pub done : new ≡ solved name log_name log (answer budget) old
-  pub holds : Holds formula budget log
+  pub done : new ≡ solved name log_name log (answer options) old
+  pub holds : Holds formula options log
 
 -- `solve` printed values that meet the formula, after an open log
 abbrev pub IsSatisfied : List Bytes → Seen → Seen → Type 0
-IsSatisfied words old new = IfSome old.files (λ files. (values : List Bool) × HasSolved words old files new (λ budget. printed.answer_text values) (λ f budget log. Meets f values × IsOpenLog f budget log))
+IsSatisfied words old new = IfSome old.files (λ files. (values : List Bool) × HasSolved words old files new (λ options. printed.answer_text values) (λ f options log. Meets f values × IsOpenLog f options log))
 
 -- No values meet the formula, and `solve` said so, after a log that is right to its end. Where the formula has an assumption constraint, it told assumed literals that fail: the negations of those of the log's
 -- last step, or the two of the least variable that is assumed with both signs.
 abbrev pub IsRefuted : List Bytes → Seen → Seen → Type 0
-IsRefuted words old new = IfSome old.files (λ files. (failed : Option (List ℤ)) × HasSolved words old files new (λ budget. unsatisfiable_text failed)
-    (λ f budget log. Unmet f × FailsAs f failed × IsClosedLog f budget log × NegatesLastStep f log failed))
+IsRefuted words old new = IfSome old.files (λ files. (failed : Option (List ℤ)) × HasSolved words old files new (λ options. unsatisfiable_text failed)
+    (λ f options log. Unmet f × FailsAs f failed × IsClosedLog f options log × NegatesLastStep f log failed))
 
 -- `solve` said that the budget is spent, after an open log that is marked this many times
 abbrev pub IsSpent : List Bytes → Seen → Seen → Type 0
 IsSpent words old new = IfSome old.files (λ files. HasSolved words old files new
-    (λ budget. joined (codes "c conflicts " ∷ decimal budget ∷ codes "\ns UNKNOWN\n" ∷ [])) (λ f budget log. IsSpentLog f budget log))
+    (λ options. joined (codes "c conflicts " ∷ decimal options.conflicts ∷ codes "\ns UNKNOWN\n" ∷ [])) (λ f options log. IsSpentLog f options log))
 
--- the words ask for `solve` with any log and budget, and this holds of the formula
+-- the words ask for `solve` with any log and options, and this holds of the formula
 abbrev pub OfSolve : List Bytes → Seen → (Problem → Type 0) → Type 0
-OfSolve words old Holds = (name : Bytes) (log_name : Option Bytes) (budget : ℕ) (f : Problem) → Asks words (plan.Solve name log_name budget)
+OfSolve words old Holds = (name : Bytes) (log_name : Option Bytes) (options : SearchOptions) (f : Problem) → Asks words (plan.Solve name log_name options)
     → IfSome old.files (λ files. Reads (text_named name files) f → Holds f)
 
 -- a formula that propagation settles is not left unknown

@@ -15,13 +15,13 @@ use Rattle.solve_cli.specs.WholeWay.{ToldRun}
 
 -- the command says that values meet the formula: `solve` by 10, `model` by 0
 abbrev pub FindsValues : Plan → Status → Type 0
-FindsValues (plan.Solve formula log conflicts) s = s ≡ status.Satisfiable
+FindsValues (plan.Solve formula log options) s = s ≡ status.Satisfiable
 FindsValues (plan.Model formula answer) s = s ≡ status.Done
 FindsValues p s = ⊥
 
 -- it says that none do: `solve` by 20, `check`, `elab` and `trim` by 0
 abbrev pub FindsNone : Plan → Status → Type 0
-FindsNone (plan.Solve formula log conflicts) s = s ≡ status.Unsatisfiable
+FindsNone (plan.Solve formula log options) s = s ≡ status.Unsatisfiable
 FindsNone (plan.Check formula proof) s = s ≡ status.Done
 FindsNone (plan.Elab formula log proof) s = s ≡ status.Done
 FindsNone (plan.Trim formula proof out) s = s ≡ status.Done

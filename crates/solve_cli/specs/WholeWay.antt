@@ -15,6 +15,7 @@ use Rattle.fratx_elab.specs.Elaborates.{IsWrittenAsGiven}
 use Rattle.cx_desk.specs.Outside.{Bytes, Files, Written}
 use Rattle.cx_words.specs.Words.{Asks}
 use Rattle.cx_words.specs.declared.plans.Plan.TheVariants as plan
+use Rattle.cx_words.specs.declared.plans.SearchOptions.{SearchOptions}
 use Rattle.solve_cli.specs.declared.ending.Status.{Status}
 use Rattle.solve_cli.specs.declared.ending.Status.TheVariants as status
 use Rattle.solve_cli.specs.Seen.{Seen, text_named}
@@ -35,8 +36,8 @@ IsCutShort limit first second s =
 
 -- `elab` of the log that `solve` wrote before its answer that no values meet the formula: 0, or cut short
 abbrev pub LogsElaborate : Type 0
-LogsElaborate = (words more : List Bytes) (limit bound : ℕ) (files others : Files) (s : Status) (written last : Written) (f log g l q : Bytes) (n : ℕ)
-    → ToldRun words limit files status.Unsatisfiable written → Asks words (plan.Solve f (Some log) n)
+LogsElaborate = (words more : List Bytes) (limit bound : ℕ) (files others : Files) (s : Status) (written last : Written) (f log g l q : Bytes) (options : SearchOptions)
+    → ToldRun words limit files status.Unsatisfiable written → Asks words (plan.Solve f (Some log) options)
     → ToldRun more bound others s last → Asks more (plan.Elab g l q)
     → text_named g others ≡ text_named f files → text_named l others ≡ written.proof
     → (s ≡ status.Done) ⊎ IsCutShort bound (text_named g others) written.proof s
@@ -60,8 +61,8 @@ pub record HasLogHints (formula : Problem) (log bytes : Bytes) : Type 0 where
 
 -- `elab` of the log that `solve` wrote before its answer that no values meet the formula, where it ends with 0: the proof has the log's hints
 abbrev pub LogsKeepHints : Type 0
-LogsKeepHints = (words more : List Bytes) (limit bound : ℕ) (files others : Files) (written last : Written) (f log g l q : Bytes) (n : ℕ)
-    → ToldRun words limit files status.Unsatisfiable written → Asks words (plan.Solve f (Some log) n)
+LogsKeepHints = (words more : List Bytes) (limit bound : ℕ) (files others : Files) (written last : Written) (f log g l q : Bytes) (options : SearchOptions)
+    → ToldRun words limit files status.Unsatisfiable written → Asks words (plan.Solve f (Some log) options)
     → ToldRun more bound others status.Done last → Asks more (plan.Elab g l q)
     → text_named g others ≡ text_named f files → text_named l others ≡ written.proof
     → (formula : Problem) × Reads (text_named g others) formula × HasLogHints formula written.proof last.proof

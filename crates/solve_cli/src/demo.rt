@@ -9,7 +9,7 @@ ghost use Rattle.cx_texts.specs.ProofText.{ProofReads};
 ghost use Rattle.cx_semantics.specs.ProofRules.{proof_calculus};
 ghost use Rattle.inst_gen.specs.Planting.{planted_formula};
 ghost use Rattle.xlrup_check.specs.Verdicts.{judgement_of};
-ghost use Rattle.solve_cli.specs.Demo.{demo_budget, instance_of, IsProofOfLog, IsVerifiedLog, Stands};
+ghost use Rattle.solve_cli.specs.Demo.{demo_options, instance_of, IsProofOfLog, IsVerifiedLog, Stands};
 ghost use Rattle.solve_cli.specs.Logs.{IsRefutation};
 ghost use Rattle.solve_cli.specs.Solving.{ComesTo};
 
@@ -94,7 +94,7 @@ pub(crate) fn show(
     found: Ending,
     log: ListLog,
 ) -> Result<Shown, AllocError>
-    requires { ComesTo formula.now demo_budget log found }
+    requires { ComesTo formula.now demo_options (printed_log log) found }
     ensures { IfOk result (Stands formula.now (printed_log log)) }
 {
     match found {

@@ -281,7 +281,7 @@ pub(crate) fn put_answer_text<D: Desk>(desk: &mut D, ending: &Ending) -> Result<
 
 /// The message where the words are refused.
 const USAGE: &[u8] =
-    b"error: usage\nusage: cxsat solve FORMULA [--proof LOG] [--conflicts N]\nusage: cxsat check FORMULA PROOF\nusage: cxsat elab FORMULA LOG PROOF\nusage: cxsat model FORMULA ANSWER\nusage: cxsat demo KIND SIZE SEED\nusage: cxsat trim FORMULA PROOF OUT\nusage: cxsat blast FORMULA OUT\nusage: cxsat affine FORMULA\n";
+    b"error: usage\nusage: cxsat solve FORMULA [--proof LOG] [--conflicts N] [--inprocess]\nusage: cxsat check FORMULA PROOF\nusage: cxsat elab FORMULA LOG PROOF\nusage: cxsat model FORMULA ANSWER\nusage: cxsat demo KIND SIZE SEED\nusage: cxsat trim FORMULA PROOF OUT\nusage: cxsat blast FORMULA OUT\nusage: cxsat affine FORMULA\n";
 
 /// A line with a place.
 fn put_place_line<D: Desk>(desk: &mut D, front: &[u8], place: u64) -> Result<(), Failed>

@@ -21,7 +21,7 @@ use crate::solve::{begin_search, search, search_on};
 use crate::trim::trim_proof;
 use crate::{Ending, Outcome, Status};
 use cx_desk::{Desk, Failed, Port};
-use cx_words::{InstanceKind, Name, Plan, PlanRefusal, plan};
+use cx_words::{InstanceKind, Name, Plan, PlanRefusal, SearchOptions, plan};
 use inst_gen::planted;
 use log_text::{ListLog, put_log};
 use std::alloc::{AllocError, Global};
@@ -134,20 +134,20 @@ fn solve<D: Desk>(
     desk: &mut D,
     formula: Name,
     log: Option<Name>,
-    conflicts: u64,
+    options: SearchOptions,
     limit: u64,
 ) -> Outcome
     requires fresh { Unasked (D.outside desk.old).asked }
     requires limit { limit ≤ 4294967295 }
     requires empty { HasNoProof (D.outside desk.old) }
-    requires conflicts { (1 ≤ conflicts) × (conflicts ≤ 10 ^ 18) }
-    ensures { Acts limit (D.outside desk.old) (D.outside desk.new) (λ w. Works (plan.Solve formula log conflicts) limit (seen w (D.outside desk.old)) result (seen w (D.outside desk.new))) }
+    requires conflicts { (1 ≤ options.conflicts) × (options.conflicts ≤ 10 ^ 18) }
+    ensures { Acts limit (D.outside desk.old) (D.outside desk.new) (λ w. Works (plan.Solve formula log options) limit (seen w (D.outside desk.old)) result (seen w (D.outside desk.new))) }
 {
     let formula = match begin_search(alloc, desk, formula, log, limit) {
         Ok(formula) => formula,
         Err(outcome) => return outcome,
     };
-    match search_on(alloc, desk, &formula, conflicts) {
+    match search_on(alloc, desk, &formula, options) {
         Ok(ending) => answer(desk, ending),
         Err(outcome) => outcome,
     }
@@ -206,8 +206,8 @@ fn carry_out<D: Desk>(alloc: Global, desk: &mut D, wanted: Plan, limit: u64) -> 
         Plan::Solve {
             formula,
             log,
-            conflicts,
-        } => solve(alloc, desk, formula, log, conflicts, limit),
+            options,
+        } => solve(alloc, desk, formula, log, options, limit),
         Plan::Demo { kind, size, seed } => demo(alloc, desk, kind, size, seed),
         Plan::Trim {
             formula,

@@ -4,7 +4,7 @@ use Rattle.cx_desk.specs.declared.desk.Port.TheVariants as port
 use Rattle.cx_texts.specs.Printed.{printed_log}
 use Rattle.solve_cli.specs.declared.ending.Ending.TheVariants as ending
 use Rattle.solve_cli.specs.declared.ending.Instance.{Instance}
-use Rattle.solve_cli.specs.Demo.{demo_budget, Stands}
+use Rattle.solve_cli.specs.Demo.{demo_options, Stands}
 use Rattle.solve_cli.specs.Seen.{seen}
 use Rattle.solve_cli.specs.Solving.{ComesTo}
 use Rattle.solve_cli.specs.Steps.{Acts, PutsAnswer}
@@ -28,7 +28,7 @@ returns-in-Err-put_log g c = λ limit.
     let o = g.D.Desk.outside c.args.desk.now in
     let n = g.D.Desk.outside c.put_log.new.desk in
     let events = c.search.new.log in
-    let finds = subst (λ (f : Problem). ComesTo f demo_budget events c.in-Ok-search.found) c.in-Ok.ensures c.in-Ok-search.ensures in
+    let finds = subst (λ (f : Problem). ComesTo f demo_options (printed_log events) c.in-Ok-search.found) c.in-Ok.ensures c.in-Ok-search.ensures in
     let h = c.in-Err-put_log.ensures in
     acts_as (acts_torn limit port.Proof (take h.0 (printed_log events)) o n h.2) (λ w fault. demo_cut c.args.kind c.args.size c.args.seed limit events c.in-Ok-search.found w o finds n h)
 
@@ -37,7 +37,7 @@ returns-in-Err-show g c = λ limit.
     let o = g.D.Desk.outside c.args.desk.now in
     let n = g.D.Desk.outside c.put_log.new.desk in
     let events = c.search.new.log in
-    let finds = subst (λ (f : Problem). ComesTo f demo_budget events c.in-Ok-search.found) c.in-Ok.ensures c.in-Ok-search.ensures in
+    let finds = subst (λ (f : Problem). ComesTo f demo_options (printed_log events) c.in-Ok-search.found) c.in-Ok.ensures c.in-Ok-search.ensures in
     acts_as (acts_puts limit port.Proof (printed_log events) o n c.in-Ok-put_log.ensures) (λ w same. demo_wanted c.args.kind c.args.size c.args.seed limit events c.in-Ok-search.found w o finds n c.in-Ok-put_log.ensures)
 
 pub returns : goal.returns
@@ -47,7 +47,7 @@ returns g c = λ limit.
     let n = g.D.Desk.outside c.answer.new.desk in
     let events = c.search.new.log in
     let shown = c.in-Ok-show.shown in
-    let finds = subst (λ (f : Problem). ComesTo f demo_budget events c.in-Ok-search.found) c.in-Ok.ensures c.in-Ok-search.ensures in
+    let finds = subst (λ (f : Problem). ComesTo f demo_options (printed_log events) c.in-Ok-search.found) c.in-Ok.ensures c.in-Ok-search.ensures in
     let stands = subst (λ (f : Problem). Stands f (printed_log events) shown) c.in-Ok.ensures c.in-Ok-show.ensures in
     let answers = subst (λ (i : Instance). Acts limit at n (λ w. PutsAnswer (ending.Demonstrated i shown) (seen w at) c.answer.result (seen w n))) c.instance_of-instance.ensures (c.answer.ensures limit) in
     acts_then (acts_puts limit port.Proof (printed_log events) o at c.in-Ok-put_log.ensures) answers

@@ -13,22 +13,22 @@ create_proof-requires g c = record {
 }
 
 pub returns-in-Err-clause-begins : goal.returns-in-Err-clause-begins
-returns-in-Err-clause-begins g c = λ conflicts.
+returns-in-Err-clause-begins g c = λ options.
     let o = g.D.Desk.outside c.args.desk.now in
     let n = g.D.Desk.outside c.read_formula_of.new.desk in
-    acts_as c.in-Err.ensures.reads (λ w h. formula_failed (plan.Solve c.args.formula c.args.log conflicts) c.args.formula c.args.limit (seen w o) c.in-Err.outcome (seen w n) refl h)
+    acts_as c.in-Err.ensures.reads (λ w h. formula_failed (plan.Solve c.args.formula c.args.log options) c.args.formula c.args.limit (seen w o) c.in-Err.outcome (seen w n) refl h)
 
 pub returns-in-Ok-create_proof-clause-begins : goal.returns-in-Ok-create_proof-clause-begins
-returns-in-Ok-create_proof-clause-begins g c = λ conflicts.
+returns-in-Ok-create_proof-clause-begins g c = λ options.
     let m = g.D.Desk.outside c.read_formula_of.new.desk in
     let n = g.D.Desk.outside c.create_proof.new.desk in
     acts_then c.in-Ok.ensures.reads (file_given c.args.limit c.args.log m n c.in-Ok-create_proof.ensures) (λ w r made. (made ∙ ap (gives_file c.args.log) r.0, r.1))
 
 pub returns-in-Err-create_proof-clause-begins : goal.returns-in-Err-create_proof-clause-begins
-returns-in-Err-create_proof-clause-begins g c = λ conflicts.
+returns-in-Err-create_proof-clause-begins g c = λ options.
     let o = g.D.Desk.outside c.args.desk.now in
     let m = g.D.Desk.outside c.read_formula_of.new.desk in
     let n = g.D.Desk.outside c.create_proof.new.desk in
     let e = c.in-Err-create_proof.outcome in
     acts_then c.in-Ok.ensures.reads (file_refused c.args.limit c.args.log m e n c.in-Err-create_proof.ensures)
-    (λ w r h. create_failed (plan.Solve c.args.formula c.args.log conflicts) c.args.log c.args.limit (seen w o) (seen w m) c.in-Ok.formula e (seen w n) refl tt r.0 r.1 h)
+    (λ w r h. create_failed (plan.Solve c.args.formula c.args.log options) c.args.log c.args.limit (seen w o) (seen w m) c.in-Ok.formula e (seen w n) refl tt r.0 r.1 h)
