@@ -1,16 +1,9 @@
 -- Lines of a log in their pieces.
-use Rattle.std.proofs.Common.{◌≡◌, sym, ap, ◌∙◌, ℕ, ℤ, pos, List, [], ◌∷◌, ◌++◌, decimal, codes, append_assoc, append-nil}
-use Rattle.cx_desk.specs.Outside.{Bytes}
-use Rattle.cx_texts.specs.Words.{Word, number, letter, conflict}
-use Rattle.cx_texts.specs.Grammar.{spelled_list}
+use Rattle.std.proofs.Common.{◌≡◌, sym, ap, ◌∙◌, ℕ, List, [], ◌∷◌, ◌++◌, decimal, codes, append_assoc, append-nil}
+use Rattle.cx_texts.specs.Words.{Word, letter, conflict}
 use Rattle.cx_texts.specs.Printed.{printed_line}
 use Rattle.step_text.specs.Spaced.{spaced}
 use Rattle.step_text.proofs.Puts.{line_spaced}
-
-pub plain_line : (before : Bytes) (n : ℕ) (ls : List ℤ) → before ++ (decimal n ++ (spaced (spelled_list ls) ++ 10 ∷ [])) ≡ before ++ printed_line (number (pos n) ∷ (spelled_list ls ++ []))
-plain_line before n ls =
-    ap (λ ws. before ++ (decimal n ++ (spaced ws ++ 10 ∷ []))) (sym (append-nil (spelled_list ls)))
-    ∙ ap (λ l. before ++ l) (sym (line_spaced (number (pos n)) (spelled_list ls ++ [])))
 
 pub clause_moves_line : (ws : List Word) → (114 ∷ []) ++ (spaced ws ++ 10 ∷ []) ≡ printed_line (letter 114 ∷ (ws ++ []))
 clause_moves_line ws = ap (λ us. 114 ∷ (spaced us ++ 10 ∷ [])) (sym (append-nil ws)) ∙ sym (line_spaced (letter 114) (ws ++ []))

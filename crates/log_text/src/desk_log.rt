@@ -9,6 +9,7 @@ ghost use Rattle.log_text.specs.Lines.{lines_told, TornTidyOn, GoesByLines};
 use crate::print::{put_event, put_tidy};
 use cx_base::LogEvent;
 use cx_desk::{Desk, Failed, Port};
+use step_text::pieces::LineSheet;
 use step_text::{Sink, SinkFault};
 
 /// A sink that prints each event and each tidy line on the Proof port of a lent desk at once. It takes no memory.
@@ -17,6 +18,8 @@ use step_text::{Sink, SinkFault};
 #[derive(Drop)]
 pub struct DeskLog<'a, D: Desk> {
     desk: &'a mut D,
+    /// For its memory alone.
+    sheet: LineSheet,
     failed: bool,
     // between two events no line is begun
     ghost whole: { failed ≡ false → is_whole (D.outside desk.now) ≡ true },
@@ -32,6 +35,7 @@ impl<'a, D: Desk> DeskLog<'a, D> {
     {
         DeskLog {
             desk,
+            sheet: LineSheet::new(),
             failed: false,
         }
     }
@@ -75,7 +79,7 @@ impl<D: Desk> Sink for DeskLog<'_, D> {
         ensures frame { (self.new.desk.ghost_name ≡ self.old.desk.ghost_name) × Goes self.old.failed (D.outside self.old.desk.now) self.new.failed (D.outside self.new.desk.now) }
     {
         self.failed = true;
-        match put_event(self.desk, Port::Proof, event) {
+        match put_event(&mut self.sheet, self.desk, Port::Proof, event) {
             Ok(()) => {
                 self.failed = false;
                 Ok(())

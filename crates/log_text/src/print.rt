@@ -1,5 +1,5 @@
 //! The printed form of logs.
-ghost use Rattle.std.specs.Prelude.{[], ◌∷◌, ◌++◌, ◌<◌, ◌^◌, flat_map, decimal};
+ghost use Rattle.std.specs.Prelude.{◌≡◌, [], ◌∷◌, ◌++◌, ◌<◌, ◌^◌, flat_map};
 ghost use Rattle.cx_desk.specs.Calls.{PutsAll};
 ghost use Rattle.cx_base.specs.declared.steps.LogEvent.TheVariants.{Step};
 ghost use Rattle.cx_base.specs.Lines.{tidy};
@@ -10,59 +10,62 @@ ghost use Rattle.cx_texts.specs.Printed.{printed_line, printed_log, printed_log_
 ghost use Rattle.step_text.specs.Spaced.{spaced};
 
 use crate::list_log::ListLog;
-use cx_base::{IdMove, LogEvent, LogStep};
+use cx_base::{IdList, IdMove, IntList, LogEvent, LogStep};
 use cx_desk::{Desk, Failed, Port, put_all};
-use step_text::pieces::{LineHead, put_head, put_id, put_ids, put_integers, put_moves};
+use step_text::pieces::{LineHead, LineSheet, LineTail, put_id, put_line, put_moves};
 
-/// An id and literals after a text, as the end of a line.
+/// The head of a line.
+fn head<'l>(before: &'l [u8], id: u64, literals: &'l IntList) -> LineHead<'l>
+    ensures before { result.before.now ≡ before.now }
+    ensures id { result.id ≡ id }
+    ensures literals { result.literals.now ≡ literals.now }
+{
+    LineHead::new(before, id, literals.as_slice())
+}
+
+/// A head, as a whole line.
 fn put_plain<D: Desk>(
+    sheet: &mut LineSheet,
     desk: &mut D,
     port: Port,
-    before: &[u8],
-    name: u64,
-    literals: &[i64],
+    head: LineHead<'_>,
 ) -> Result<(), Failed>
-    ensures { PutsAll port (before.now ++ printed_line (flat_map spelled (id name ∷ integers literals.now ∷ []))) (D.outside desk.old) result (D.outside desk.new) }
+    ensures { PutsAll port (head.entry.before.now ++ printed_line (flat_map spelled (id head.entry.id ∷ integers head.entry.literals.now ∷ []))) (D.outside desk.old) result (D.outside desk.new) }
 {
-    if literals.is_empty() {
-        return put_id(desk, port, before, name, b" 0\n");
-    }
-    let head = LineHead {
-        before,
-        id: name,
-        literals,
-    };
-    put_head(desk, port, head, b"\n")
+    put_line(sheet, desk, port, head, LineTail::Nothing)
 }
 
 /// A head and hints, as a whole line.
 fn put_with_hints<D: Desk>(
+    sheet: &mut LineSheet,
     desk: &mut D,
     port: Port,
     head: LineHead<'_>,
-    hints: &[i64],
+    hints: &IntList,
 ) -> Result<(), Failed>
     ensures { PutsAll port (head.entry.before.now ++ printed_line (flat_map spelled (id head.entry.id ∷ integers head.entry.literals.now ∷ mark 108 ∷ integers hints.now ∷ []))) (D.outside desk.old) result (D.outside desk.new) }
 {
-    put_head(desk, port, head, b" l")?;
-    put_integers(desk, port, hints, b"\n")
+    let tail = LineTail::MarkedHints(hints.as_slice());
+    put_line(sheet, desk, port, head, tail)
 }
 
 /// A parity's head and the ids of sources, as a whole line.
 fn put_with_sources<D: Desk>(
+    sheet: &mut LineSheet,
     desk: &mut D,
     port: Port,
     head: LineHead<'_>,
-    sources: &[u64],
+    sources: &IdList,
 ) -> Result<(), Failed>
     ensures { PutsAll port (head.entry.before.now ++ printed_line (flat_map spelled (id head.entry.id ∷ integers head.entry.literals.now ∷ mark 108 ∷ ids sources.now ∷ []))) (D.outside desk.old) result (D.outside desk.new) }
 {
-    put_head(desk, port, head, b" l")?;
-    put_ids(desk, port, sources)
+    let tail = LineTail::MarkedIds(sources.as_slice());
+    put_line(sheet, desk, port, head, tail)
 }
 
 /// A head and the id of one source, as a whole line.
 fn put_with_source<D: Desk>(
+    sheet: &mut LineSheet,
     desk: &mut D,
     port: Port,
     head: LineHead<'_>,
@@ -70,8 +73,7 @@ fn put_with_source<D: Desk>(
 ) -> Result<(), Failed>
     ensures { PutsAll port (head.entry.before.now ++ printed_line (flat_map spelled (id head.entry.id ∷ integers head.entry.literals.now ∷ mark 108 ∷ id source ∷ end ∷ []))) (D.outside desk.old) result (D.outside desk.new) }
 {
-    put_head(desk, port, head, b" l")?;
-    put_id(desk, port, b" ", source, b" 0\n")
+    put_line(sheet, desk, port, head, LineTail::MarkedIds(&[source]))
 }
 
 /// Moves of ids after a text, as the end of a line.
@@ -101,37 +103,38 @@ fn put_parity_moves<D: Desk>(desk: &mut D, port: Port, moves: &[IdMove]) -> Resu
     put_move_line(desk, port, b"r x", moves)
 }
 
-/// Writes the line of a step: its words parted by one space, and a line feed. It takes no memory.
+/// Writes the line of a step: its words parted by one space, and a line feed. It takes no memory; the sheet is for its memory alone.
 ///
 /// It fails only where the desk counted a fault of the port; then the port gained a prefix of the line.
-pub fn put_log_step<D: Desk>(desk: &mut D, port: Port, step: &LogStep) -> Result<(), Failed>
+pub fn put_log_step<D: Desk>(
+    sheet: &mut LineSheet,
+    desk: &mut D,
+    port: Port,
+    step: &LogStep,
+) -> Result<(), Failed>
     requires { HasText (Step step.now) }
     ensures { PutsAll port (printed_line (spelling log_steps step.now)) (D.outside desk.old) result (D.outside desk.new) }
 {
     match step {
-        LogStep::Original(id, lits) => put_plain(desk, port, b"o ", *id, lits.as_slice()),
-        LogStep::OriginalParity(id, lits) => put_plain(desk, port, b"o x ", *id, lits.as_slice()),
-        LogStep::Clause(id, lits) => put_plain(desk, port, b"a ", *id, lits.as_slice()),
+        LogStep::Original(id, lits) => put_plain(sheet, desk, port, head(b"o ", *id, lits)),
+        LogStep::OriginalParity(id, lits) => put_plain(sheet, desk, port, head(b"o x ", *id, lits)),
+        LogStep::Clause(id, lits) => put_plain(sheet, desk, port, head(b"a ", *id, lits)),
         LogStep::ClauseWithHints(id, lits, hints) => {
-            let head = LineHead::new(b"a ", *id, lits.as_slice());
-            put_with_hints(desk, port, head, hints.as_slice())
+            put_with_hints(sheet, desk, port, head(b"a ", *id, lits), hints)
         }
         LogStep::Parity(id, lits, sources) => {
-            let head = LineHead::new(b"a x ", *id, lits.as_slice());
-            put_with_sources(desk, port, head, sources.as_slice())
+            put_with_sources(sheet, desk, port, head(b"a x ", *id, lits), sources)
         }
         LogStep::ClauseOfParity(id, lits, source) => {
-            let head = LineHead::new(b"i ", *id, lits.as_slice());
-            put_with_source(desk, port, head, *source)
+            put_with_source(sheet, desk, port, head(b"i ", *id, lits), *source)
         }
         LogStep::ParityOfClauses(id, lits, sources) => {
-            let head = LineHead::new(b"i x ", *id, lits.as_slice());
-            put_with_sources(desk, port, head, sources.as_slice())
+            put_with_sources(sheet, desk, port, head(b"i x ", *id, lits), sources)
         }
-        LogStep::Delete(id, lits) => put_plain(desk, port, b"d ", *id, lits.as_slice()),
-        LogStep::DeleteParity(id, lits) => put_plain(desk, port, b"d x ", *id, lits.as_slice()),
-        LogStep::Final(id, lits) => put_plain(desk, port, b"f ", *id, lits.as_slice()),
-        LogStep::FinalParity(id, lits) => put_plain(desk, port, b"f x ", *id, lits.as_slice()),
+        LogStep::Delete(id, lits) => put_plain(sheet, desk, port, head(b"d ", *id, lits)),
+        LogStep::DeleteParity(id, lits) => put_plain(sheet, desk, port, head(b"d x ", *id, lits)),
+        LogStep::Final(id, lits) => put_plain(sheet, desk, port, head(b"f ", *id, lits)),
+        LogStep::FinalParity(id, lits) => put_plain(sheet, desk, port, head(b"f x ", *id, lits)),
         LogStep::MoveClauses(moves) => put_clause_moves(desk, port, moves.as_slice()),
         LogStep::MoveParities(moves) => put_parity_moves(desk, port, moves.as_slice()),
     }
@@ -153,12 +156,17 @@ pub(crate) fn put_tidy<D: Desk>(desk: &mut D, port: Port, restart: u64) -> Resul
 }
 
 /// The line of an event.
-pub(crate) fn put_event<D: Desk>(desk: &mut D, port: Port, event: &LogEvent) -> Result<(), Failed>
+pub(crate) fn put_event<D: Desk>(
+    sheet: &mut LineSheet,
+    desk: &mut D,
+    port: Port,
+    event: &LogEvent,
+) -> Result<(), Failed>
     requires { HasText event.now }
     ensures { PutsAll port (printed_line (spelling log_events event.now)) (D.outside desk.old) result (D.outside desk.new) }
 {
     match event {
-        LogEvent::Step(step) => put_log_step(desk, port, step),
+        LogEvent::Step(step) => put_log_step(sheet, desk, port, step),
         LogEvent::Conflict(k) => put_mark(desk, port, *k),
     }
 }
@@ -171,8 +179,9 @@ pub(crate) fn put_event<D: Desk>(desk: &mut D, port: Port, event: &LogEvent) -> 
 pub fn put_log<D: Desk>(desk: &mut D, port: Port, log: &ListLog) -> Result<(), Failed>
     ensures { PutsAll port (printed_log log.now) (D.outside desk.old) result (D.outside desk.new) }
 {
+    let mut sheet = LineSheet::new();
     for event in log.events() {
-        put_event(desk, port, event)?;
+        put_event(&mut sheet, desk, port, event)?;
     }
     Ok(())
 }

@@ -9,20 +9,9 @@ ghost use Rattle.proof_text.specs.Borrowed.{step_of};
 use crate::step_ref::StepRef;
 use cx_base::ProofStep;
 use cx_desk::{Desk, Failed, Port, put_all};
-use step_text::pieces::{self, LineHead, LineSheet, put_deletion, put_id, put_ids, put_line};
-
-/// A head and hints, as a whole line.
-fn put_hinted<D: Desk>(
-    sheet: &mut LineSheet,
-    desk: &mut D,
-    port: Port,
-    head: LineHead<'_>,
-    hints: &[i64],
-) -> Result<(), Failed>
-    ensures { PutsAll port (head.entry.before.now ++ printed_line (flat_map spelled (id head.entry.id ∷ integers head.entry.literals.now ∷ integers hints.now ∷ []))) (D.outside desk.old) result (D.outside desk.new) }
-{
-    put_line(sheet, desk, port, head, hints)
-}
+use step_text::pieces::{
+    self, LineHead, LineSheet, LineTail, put_deletion, put_id, put_ids, put_line,
+};
 
 /// A deletion of clauses.
 fn put_clause_deletion<D: Desk>(
@@ -67,21 +56,21 @@ pub fn put_step_ref<D: Desk>(
     match step {
         StepRef::Clause(id, literals, hints) => {
             let head = LineHead::new(b"", id, literals);
-            put_hinted(sheet, desk, port, head, hints)
+            put_line(sheet, desk, port, head, LineTail::Hints(hints))
         }
         StepRef::DeleteClauses(id, names) => put_clause_deletion(desk, port, id, names),
         StepRef::Parity(id, literals, hints) => {
             let head = LineHead::new(b"x ", id, literals);
-            put_hinted(sheet, desk, port, head, hints)
+            put_line(sheet, desk, port, head, LineTail::Hints(hints))
         }
         StepRef::DeleteParities(names) => put_parity_deletion(desk, port, names),
         StepRef::ClauseOfParity(id, literals, hint) => {
             let head = LineHead::new(b"i ", id, literals);
-            put_hinted(sheet, desk, port, head, &[hint])
+            put_line(sheet, desk, port, head, LineTail::Hints(&[hint]))
         }
         StepRef::ParityOfClauses(id, literals, hints) => {
             let head = LineHead::new(b"i x ", id, literals);
-            put_hinted(sheet, desk, port, head, hints)
+            put_line(sheet, desk, port, head, LineTail::Hints(hints))
         }
     }
 }

@@ -70,7 +70,7 @@ pub spaced_integers : (zs : List ℤ) → spaced (spelled_list zs) ≡ flat_map 
 spaced_integers [] = ap (λ d. 32 ∷ (d ++ [])) zero_digit
 spaced_integers (z ∷ zs) = ap (λ l. spaced_integer z ++ l) (spaced_integers zs) ∙ sym (append_assoc (spaced_integer z) (flat_map spaced_integer zs) (32 ∷ 48 ∷ []))
 
-spaced_ids : (ns : List ℕ) → spaced (spelled_list (map pos ns)) ≡ flat_map spaced_id ns ++ (32 ∷ 48 ∷ [])
+pub spaced_ids : (ns : List ℕ) → spaced (spelled_list (map pos ns)) ≡ flat_map spaced_id ns ++ (32 ∷ 48 ∷ [])
 spaced_ids [] = ap (λ d. 32 ∷ (d ++ [])) zero_digit
 spaced_ids (n ∷ ns) = ap (λ l. spaced_id n ++ l) (spaced_ids ns) ∙ sym (append_assoc (spaced_id n) (flat_map spaced_id ns) (32 ∷ 48 ∷ []))
 
@@ -94,20 +94,20 @@ move_text m = λ i. 32 ∷ (append-nil (decimal m.from) i ++ (32 ∷ append-nil 
 pub spaced-append : (us ws : List Word) → spaced (us ++ ws) ≡ spaced us ++ spaced ws
 spaced-append us ws = flat_map-append (λ w. 32 ∷ printed_word w) us ws
 
-pub head_text : (before : Bytes) (n : ℕ) (ls : List ℤ) (after : Bytes) → (before ++ (decimal n ++ [])) ++ (spaced (spelled_list ls) ++ after) ≡ before ++ (decimal n ++ (spaced (spelled_list ls) ++ after))
-head_text before n ls after = simp (append_assoc, append-nil)
+pub head_text : (before : Bytes) (n : ℕ) (ls : List ℤ) → (before ++ (decimal n ++ [])) ++ (spaced (spelled_list ls) ++ []) ≡ before ++ (decimal n ++ spaced (spelled_list ls))
+head_text before n ls = simp (append_assoc, append-nil)
 
-pub in_row : (a d l h t : Bytes) → (a ++ (d ++ (l ++ h))) ++ t ≡ a ++ (d ++ (l ++ (h ++ t)))
-in_row a d l h t = simp append_assoc
-
--- a line goes on after its head
-pub line_on : (before : Bytes) (n : ℕ) (ls : List ℤ) (ws : List Word) (after tail : Bytes) → after ++ tail ≡ spaced ws ++ 10 ∷ []
-    → (before ++ (decimal n ++ (spaced (spelled_list ls) ++ after))) ++ tail ≡ before ++ printed_line (number (pos n) ∷ (spelled_list ls ++ ws))
-line_on before n ls ws after tail e =
-    in_row before (decimal n) (spaced (spelled_list ls)) after tail
-    ∙ ap (λ l. before ++ (decimal n ++ (spaced (spelled_list ls) ++ l))) e
-    ∙ ap (λ l. before ++ (decimal n ++ l)) (sym (append_assoc (spaced (spelled_list ls)) (spaced ws) (10 ∷ [])) ∙ ap (λ l. l ++ 10 ∷ []) (sym (spaced-append (spelled_list ls) ws)))
+-- a line's head, and the words after it
+pub whole_line : (before : Bytes) (n : ℕ) (ls : List ℤ) (ws : List Word) → before ++ (decimal n ++ (spaced (spelled_list ls) ++ (spaced ws ++ 10 ∷ []))) ≡ before ++ printed_line (number (pos n) ∷ (spelled_list ls ++ ws))
+whole_line before n ls ws =
+    ap (λ l. before ++ (decimal n ++ l)) (sym (append_assoc (spaced (spelled_list ls)) (spaced ws) (10 ∷ [])) ∙ ap (λ l. l ++ 10 ∷ []) (sym (spaced-append (spelled_list ls) ws)))
     ∙ ap (λ l. before ++ l) (sym (line_spaced (number (pos n)) (spelled_list ls ++ ws)))
+
+after_three : (a b c d : Bytes) → (a ++ (b ++ c)) ++ d ≡ a ++ (b ++ (c ++ d))
+after_three a b c d = simp append_assoc
+
+pub line_in_two : (before : Bytes) (n : ℕ) (ls : List ℤ) (ws : List Word) → (before ++ (decimal n ++ spaced (spelled_list ls))) ++ (spaced ws ++ 10 ∷ []) ≡ before ++ printed_line (number (pos n) ∷ (spelled_list ls ++ ws))
+line_in_two before n ls ws = after_three before (decimal n) (spaced (spelled_list ls)) (spaced ws ++ 10 ∷ []) ∙ whole_line before n ls ws
 
 -- the tails of lines: a list, or one number and a zero
 pub list_tail : (ws : List Word) → spaced ws ++ 10 ∷ [] ≡ spaced (ws ++ []) ++ 10 ∷ []
@@ -138,9 +138,3 @@ pub parity_names_line : (ns : List ℕ) → (120 ∷ 32 ∷ 100 ∷ []) ++ (spac
 parity_names_line ns =
     ap (λ ws. 120 ∷ 32 ∷ 100 ∷ (spaced ws ++ 10 ∷ [])) (sym (append-nil (spelled_list (map pos ns))))
     ∙ sym (line_spaced (letter 120) (letter 100 ∷ (spelled_list (map pos ns) ++ [])))
-
-pub hinted_line : (before : Bytes) (n : ℕ) (ls hs : List ℤ)
-    → before ++ (decimal n ++ (spaced (spelled_list ls) ++ (spaced (spelled_list hs) ++ 10 ∷ []))) ≡ before ++ printed_line (number (pos n) ∷ (spelled_list ls ++ (spelled_list hs ++ [])))
-hinted_line before n ls hs =
-    sym (in_row before (decimal n) (spaced (spelled_list ls)) [] (spaced (spelled_list hs) ++ 10 ∷ []))
-    ∙ line_on before n ls (spelled_list hs ++ []) [] (spaced (spelled_list hs) ++ 10 ∷ []) (list_tail (spelled_list hs))

@@ -11,6 +11,7 @@ pub mod Slots
 pub mod Sources
 pub mod Short
 pub mod Spaced
+pub mod Tails
 pub mod Taking
 pub mod Texts
 pub mod Lists

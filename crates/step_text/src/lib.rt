@@ -5,6 +5,7 @@ pub mod ahead;
 pub mod fields;
 mod grammar;
 mod lay_out;
+mod line;
 pub mod pieces;
 mod short_integer;
 mod short_moves;

@@ -1,13 +1,16 @@
 //! Pieces of a printed line, which printers of steps are made of.
-ghost use Rattle.std.specs.Prelude.{◌≡◌, ◌≤◌, ◌+◌, ◌*◌, [], ◌∷◌, length, ◌++◌, flat_map, decimal};
+ghost use Rattle.std.specs.Prelude.{◌≡◌, ◌≤◌, ◌+◌, ◌*◌, [], ◌∷◌, length, ◌++◌, flat_map, decimal, IsTrue};
 ghost use Rattle.cx_desk.specs.Calls.{PutsAll};
-ghost use Rattle.cx_texts.specs.Grammar.{spelled, ids, integers, pairs};
+ghost use Rattle.cx_texts.specs.Grammar.{spelled, id, ids, integers, pairs};
+ghost use Rattle.cx_texts.specs.Printed.{printed_line};
 ghost use Rattle.step_text.specs.Spaced.{spaced, spaced_integer, spaced_id, spaced_move};
+ghost use Rattle.step_text.specs.Tails.{tail_fields, tail_len, tail_text};
 
 use crate::lay_out::{
     DELETION_ROOM, FRAME, LONGEST, lay_out_deletion, lay_out_ids, lay_out_integers, lay_out_line,
     lay_out_parity_deletion,
 };
+pub use crate::line::{LineHead, LineTail};
 use cx_base::IdMove;
 use cx_desk::{Desk, Failed, Port, put_all, put_pieces};
 use itoa::Buffer;
@@ -174,45 +177,33 @@ pub fn put_parity_deletion<D: Desk>(desk: &mut D, port: Port, deleted: u64) -> R
     put_all(desk, port, &sheet[begin..])
 }
 
-/// The head of a step's line: a text, an id and literals.
-#[derive(Clone, Copy, Drop)]
-pub struct LineHead<'l> {
-    /// What comes before the id.
-    pub before: &'l [u8],
-    pub id: u64,
-    pub literals: &'l [i64],
+/// The head of a step's line.
+fn put_head<D: Desk>(desk: &mut D, port: Port, head: LineHead<'_>) -> Result<(), Failed>
+    ensures { PutsAll port (head.entry.before.now ++ (decimal head.entry.id ++ spaced (spelled (integers head.entry.literals.now)))) (D.outside desk.old) result (D.outside desk.new) }
+{
+    put_id(desk, port, head.before, head.id, b"")?;
+    put_integers(desk, port, head.literals, b"")
 }
 
-impl<'l> LineHead<'l> {
-    /// The head with these.
-    #[inline(always)]
-    pub fn new(before: &'l [u8], id: u64, literals: &'l [i64]) -> LineHead<'l>
-        ensures before { result.before.now ≡ before.now }
-        ensures id { result.id ≡ id }
-        ensures literals { result.literals.now ≡ literals.now }
-    {
-        LineHead {
-            before,
-            id,
-            literals,
+/// The tail of a step's line.
+fn put_tail<D: Desk>(desk: &mut D, port: Port, tail: LineTail<'_>) -> Result<(), Failed>
+    ensures { PutsAll port (tail_text tail.entry) (D.outside desk.old) result (D.outside desk.new) }
+{
+    match tail {
+        LineTail::Nothing => put_all(desk, port, b"\n"),
+        LineTail::Hints(hints) => put_integers(desk, port, hints, b"\n"),
+        LineTail::MarkedHints(hints) => {
+            put_all(desk, port, b" l")?;
+            put_integers(desk, port, hints, b"\n")
+        }
+        LineTail::MarkedIds(ids) => {
+            put_all(desk, port, b" l")?;
+            put_ids(desk, port, ids)
         }
     }
 }
 
-/// The head of a step's line, and a text after it.
-pub fn put_head<D: Desk>(
-    desk: &mut D,
-    port: Port,
-    head: LineHead<'_>,
-    after: &[u8],
-) -> Result<(), Failed>
-    ensures { PutsAll port (head.entry.before.now ++ (decimal head.entry.id ++ (spaced (spelled (integers head.entry.literals.now)) ++ after.now))) (D.outside desk.old) result (D.outside desk.new) }
-{
-    put_id(desk, port, head.before, head.id, b"")?;
-    put_integers(desk, port, head.literals, after)
-}
-
-/// The most integers of a line that is laid out whole.
+/// The most numbers of a line that is laid out whole, together with the bytes before its id.
 const MANY: usize = 512;
 
 /// Room for a line that is laid out whole.
@@ -232,36 +223,44 @@ impl LineSheet {
     }
 }
 
-/// A head and hints, few integers together, as a whole line, in one piece.
+/// Whether a sheet has room for a line.
+#[inline(always)]
+fn has_room(head: &LineHead<'_>, tail: &LineTail<'_>) -> bool
+    ensures { IsTrue result → length head.now.before.now + (length head.now.literals.now + tail_len tail.now) ≤ MANY }
+{
+    let numbers = head.literals.len().saturating_add(tail.count());
+    head.before.len().saturating_add(numbers) <= MANY
+}
+
+/// A line for which a sheet has room, in one piece.
 fn put_whole_line<D: Desk>(
     sheet: &mut LineSheet,
     desk: &mut D,
     port: Port,
     head: LineHead<'_>,
-    hints: &[i64],
+    tail: LineTail<'_>,
 ) -> Result<(), Failed>
-    requires few { length head.literals.now + length hints.now ≤ MANY }
-    ensures { PutsAll port (head.entry.before.now ++ (decimal head.entry.id ++ (spaced (spelled (integers head.entry.literals.now)) ++ (spaced (spelled (integers hints.now)) ++ 10 ∷ [])))) (D.outside desk.old) result (D.outside desk.new) }
+    requires few { length head.before.now + (length head.literals.now + tail_len tail) ≤ MANY }
+    ensures { PutsAll port (head.entry.before.now ++ (decimal head.entry.id ++ (spaced (spelled (integers head.entry.literals.now)) ++ tail_text tail.entry))) (D.outside desk.old) result (D.outside desk.new) }
 {
     let sheet = &mut sheet.bytes[..];
-    let begin = lay_out_line(head.id, head.literals, hints, sheet);
-    put_all(desk, port, head.before)?;
+    let begin = lay_out_line(head, tail, sheet);
     put_all(desk, port, &sheet[begin..])
 }
 
-/// A head and hints, each list with the zero that ends it, as a whole line.
+/// The line of a step: its head and its tail. The sheet is for its memory alone.
 pub fn put_line<D: Desk>(
     sheet: &mut LineSheet,
     desk: &mut D,
     port: Port,
     head: LineHead<'_>,
-    hints: &[i64],
+    tail: LineTail<'_>,
 ) -> Result<(), Failed>
-    ensures { PutsAll port (head.entry.before.now ++ (decimal head.entry.id ++ (spaced (spelled (integers head.entry.literals.now)) ++ (spaced (spelled (integers hints.now)) ++ 10 ∷ [])))) (D.outside desk.old) result (D.outside desk.new) }
+    ensures { PutsAll port (head.entry.before.now ++ printed_line (flat_map spelled (id head.entry.id ∷ integers head.entry.literals.now ∷ tail_fields tail.entry))) (D.outside desk.old) result (D.outside desk.new) }
 {
-    if head.literals.len().saturating_add(hints.len()) <= MANY {
-        return put_whole_line(sheet, desk, port, head, hints);
+    if has_room(&head, &tail) {
+        return put_whole_line(sheet, desk, port, head, tail);
     }
-    put_head(desk, port, head, b"")?;
-    put_integers(desk, port, hints, b"\n")
+    put_head(desk, port, head)?;
+    put_tail(desk, port, tail)
 }

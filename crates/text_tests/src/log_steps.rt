@@ -10,6 +10,7 @@ use cx_desk::{MemDesk, Port, Rooms};
 use log_text::{ListLog, LogStep, LogText, NoLog, put_log, put_log_step};
 use std::alloc::{AllocError, Global};
 use std::test::Fail;
+use step_text::pieces::LineSheet;
 use step_text::{Sink, SinkFault, SpareLists, StepSource, TextRefusal};
 
 /// The texts of logs.
@@ -40,7 +41,7 @@ fn keep_mark(log: &mut ListLog, k: u64) -> Result<(), SinkFault> {
 fn put(desk: &mut MemDesk, log: &mut ListLog, step: LogStep, k: u64) -> Result<(), Fail>
     requires { HasText (Step step) }
 {
-    let printed = put_log_step(desk, Port::Proof, &step);
+    let printed = put_log_step(&mut LineSheet::new(), desk, Port::Proof, &step);
     keep_step(log, step)?;
     printed?;
     keep_mark(log, k)?;

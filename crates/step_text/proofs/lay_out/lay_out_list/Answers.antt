@@ -5,7 +5,7 @@ use Rattle.step_text.proofs.lay_out.lay_out_list.Goals as goal
 
 pub returns-clause-laid : goal.returns-clause-laid
 returns-clause-laid c =
-    let members = c.args.members.now in
+    let members = flat_map spaced_integer c.args.members.now in
     let behind = drop c.args.end c.args.sheet.now in
-    c.lay_out_integers.ensures.laid ∙ ap (λ t. flat_map spaced_integer members ++ t) c.lay_out_zero-begin.ensures.laid
-    ∙ sym (append_assoc (flat_map spaced_integer members) (32 ∷ 48 ∷ []) behind) ∙ ap (λ t. t ++ behind) (sym (spaced_integers members))
+    c.lay_out_integers.ensures.laid ∙ ap (λ t. members ++ t) c.lay_out_text-begin.ensures.laid
+    ∙ sym (append_assoc members (32 ∷ 48 ∷ []) behind) ∙ ap (λ t. t ++ behind) (sym (spaced_integers c.args.members.now))

@@ -9,8 +9,8 @@ pub returns-in_err-put_id : goal.returns-in_err-put_id
 returns-in_err-put_id g c =
     let p = err_from_is_err_and c.from_residual.result c.from_residual.ensures.1 in
     let first = c.args.head.before.now ++ (decimal c.args.head.id ++ []) in
-    let second = spaced (spelled_list c.args.head.literals.now) ++ c.args.after.now in
-    let text = head_text c.args.head.before.now c.args.head.id c.args.head.literals.now c.args.after.now in
+    let second = spaced (spelled_list c.args.head.literals.now) ++ [] in
+    let text = head_text c.args.head.before.now c.args.head.id c.args.head.literals.now in
     let old = g.D.Desk.outside c.args.desk.now in
     let new = g.D.Desk.outside c.put_id.new.desk in
     rw p.1 (first_fails c.args.port first second _ old new text c.in_err-put_id.ensures)
@@ -18,8 +18,8 @@ returns-in_err-put_id g c =
 pub returns : goal.returns
 returns g c =
     let first = c.args.head.before.now ++ (decimal c.args.head.id ++ []) in
-    let second = spaced (spelled_list c.args.head.literals.now) ++ c.args.after.now in
-    let text = head_text c.args.head.before.now c.args.head.id c.args.head.literals.now c.args.after.now in
+    let second = spaced (spelled_list c.args.head.literals.now) ++ [] in
+    let text = head_text c.args.head.before.now c.args.head.id c.args.head.literals.now in
     let old = g.D.Desk.outside c.args.desk.now in
     let mid = g.D.Desk.outside c.put_id.new.desk in
     let new = g.D.Desk.outside c.put_integers.new.desk in
