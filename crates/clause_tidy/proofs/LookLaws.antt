@@ -9,8 +9,8 @@ use Rattle.cx_base.specs.Literals.{Literal, code_of}
 use Rattle.clause_arena.specs.Clauses.{ArenaState, IsLive, literals_at}
 use Rattle.clause_arena.proofs.PackingLaws.{live_within}
 use Rattle.clause_tidy.specs.Indexes.{IsIndexed, AreKnown, HasNoWholeFrom}
-use Rattle.clause_tidy.specs.Listing.{list_of}
-use Rattle.clause_tidy.specs.Looks.{HasWholesOf}
+use Rattle.clause_tidy.specs.Listing.{is_chosen, list_of}
+use Rattle.clause_tidy.specs.Looks.{HasWholesOf, IsChosenIn}
 use Rattle.clause_tidy.specs.Marks.{HaveRoom}
 use Rattle.clause_tidy.specs.Pairs.{Bears}
 use Rattle.clause_tidy.proofs.BearLaws.{contained, has_contained, has_variable}
@@ -46,17 +46,17 @@ pub all_among : (a : ArenaState) (p : ℕ) (list found : List ℕ) (i : ℕ) →
 all_among a p list found i all h q among live bears = h q (subst (λ (xs : List ℕ). Contains xs q) (sym all) among) live bears
 
 -- ---- one list has them all
-pub listed_wholes : (a : ArenaState) (p first : ℕ) (lists : List (List ℕ)) (signatures : List ℕ) (l : Literal) (found : List ℕ) → IsIndexed a first (length a.clauses) lists signatures → Contains (literals_at a p) l
+pub listed_wholes : (a : ArenaState) (p first : ℕ) (lists : List (List ℕ)) (chosen : List Bool) (signatures : List ℕ) (l : Literal) (found : List ℕ) → IsIndexed a first (length a.clauses) lists chosen signatures → IsChosenIn chosen (literals_at a p) l
     → HasWholesOf a p (Contains (list_of lists l.variable)) found → HasWholesOf a p (λ q. first ≤ q) found
-listed_wholes a p first lists signatures l found index has h q among live bears =
-    let w = has_variable (literals_at a p) (literals_at a q) bears.2 l (has_contained (literals_at a p) l has) in
-    let there = All-contains (λ m. Contains (list_of lists m.variable) q) (literals_at a q) w.0 (index.listed q among (live_within a q live) live) (contained (literals_at a q) w.0 w.1) in
-    h q (subst (λ (v : ℕ). Contains (list_of lists v) q) w.2 there) live bears
+listed_wholes a p first lists chosen signatures l found index has h q among live bears =
+    let w = has_variable (literals_at a p) (literals_at a q) bears.2 l (has_contained (literals_at a p) l has.0) in
+    let there = All-contains (λ m. is_chosen chosen m.variable ≡ true → Contains (list_of lists m.variable) q) (literals_at a q) w.0 (index.listed q among (live_within a q live) live) (contained (literals_at a q) w.0 w.1) in
+    h q (subst (λ (v : ℕ). Contains (list_of lists v) q) w.2 (there (ap (is_chosen chosen) w.2 ∙ has.1))) live bears
 
 -- one that is empty has none
-pub no_whole : (a : ArenaState) (p first : ℕ) (lists : List (List ℕ)) (signatures : List ℕ) (l : Literal) → IsIndexed a first (length a.clauses) lists signatures → Contains (literals_at a p) l → list_of lists l.variable ≡ [] → HasNoWholeFrom a p first
-no_whole a p first lists signatures l index has none q past live bears =
-    let k = listed_wholes a p first lists signatures l [] index has (λ r among _ _. subst (λ (xs : List ℕ). Contains xs r) none among) q past live bears in
+pub no_whole : (a : ArenaState) (p first : ℕ) (lists : List (List ℕ)) (chosen : List Bool) (signatures : List ℕ) (l : Literal) → IsIndexed a first (length a.clauses) lists chosen signatures → IsChosenIn chosen (literals_at a p) l → list_of lists l.variable ≡ [] → HasNoWholeFrom a p first
+no_whole a p first lists chosen signatures l index has none q past live bears =
+    let k = listed_wholes a p first lists chosen signatures l [] index has (λ r among _ _. subst (λ (xs : List ℕ). Contains xs r) none among) q past live bears in
     let low = k.1 in
     absurd (omega (arith, low))
 
@@ -68,14 +68,26 @@ double false v n h = omega (arith, h)
 pub room_for : (marks : List Bool) (lists : List (List ℕ)) (lits : List Literal) → length marks ≡ 2 * length lists → AreKnown lists lits → HaveRoom marks lits
 room_for marks lists lits long known = All-weaker (λ l. l.variable < length lists) (λ l. code_of l < length marks) (λ l h. let low = double l.negative l.variable (length lists) h in subst (λ n. code_of l < n) (sym long) low) lits known
 
-pub known_clause : (a : ArenaState) (first : ℕ) (lists : List (List ℕ)) (signatures : List ℕ) (p : ℕ) → IsIndexed a first (length a.clauses) lists signatures → IsLive a p → AreKnown lists (literals_at a p)
-known_clause a first lists signatures p index live = index.known p (live_within a p live) live
+pub known_clause : (a : ArenaState) (first : ℕ) (lists : List (List ℕ)) (chosen : List Bool) (signatures : List ℕ) (p : ℕ) → IsIndexed a first (length a.clauses) lists chosen signatures → IsLive a p → AreKnown lists (literals_at a p)
+known_clause a first lists chosen signatures p index live = index.known p (live_within a p live) live
 
 -- ---- all references
-pub reached_more : (found new : List ℕ) (i r : ℕ) → r ≡ i → new ≡ found ++ r ∷ [] → ((q : ℕ) → q < i → Contains found q) → (q : ℕ) → q < i + 1 → Contains new q
-reached_more found new i r is grown before q low = subst (λ (xs : List ℕ). Contains xs q) (sym grown)
-    (⊎_elim (λ (e : q ≡ r). subst (λ (x : ℕ). Contains (found ++ r ∷ []) x) (sym e) (last_is_in found r))
-    (λ (ne : q ≢ r). Contains-append_left found (r ∷ []) q (before q (omega (arith, low, is, ne)))) (cases_eq q r))
+module _ (a : ArenaState) (p i r : ℕ) (is : r ≡ i) (found : List ℕ) (before : HasWholesOf a p (λ q. q < i) found) where
+  pub reached_more : (new : List ℕ) → new ≡ found ++ r ∷ [] → HasWholesOf a p (λ q. q < i + 1) new
+  reached_more new grown q low live bears = subst (λ (xs : List ℕ). Contains xs q) (sym grown)
+      (⊎_elim (λ (e : q ≡ r). subst (λ (x : ℕ). Contains (found ++ r ∷ []) x) (sym e) (last_is_in found r))
+      (λ (ne : q ≢ r). Contains-append_left found (r ∷ []) q (before q (omega (arith, low, is, ne)) live bears)) (cases_eq q r))
+
+  pub reached_past : (IsLive a r → Bears a p r → ⊥) → HasWholesOf a p (λ q. q < i + 1) found
+  reached_past none q low live bears = ⊎_elim
+      (λ (e : q ≡ r). absurd (none (subst (λ (x : ℕ). IsLive a x) e live) (subst (λ (x : ℕ). Bears a p x) e bears)))
+      (λ (ne : q ≢ r). before q (omega (arith, low, is, ne)) live bears) (cases_eq q r)
+
+pub all_reached : (a : ArenaState) (p first i : ℕ) (found : List ℕ) → length a.clauses ≤ i → HasWholesOf a p (λ q. q < i) found → HasWholesOf a p (λ q. q < length a.clauses) found
+all_reached a p first i found all h q low live bears = h q (omega (arith, all, low)) live bears
+
+pub among_all : (a : ArenaState) (p first : ℕ) (found : List ℕ) → HasWholesOf a p (λ q. q < length a.clauses) found → HasWholesOf a p (λ q. first ≤ q) found
+among_all a p first found h q past live bears = h q (live_within a q live) live bears
 
 -- ---- a test
 pub match_not : (b : Bool) (P Q : Type 0) → P → (b ≡ true → Q) → MatchBool (not b) P Q

@@ -1,6 +1,6 @@
 -- What is due.
 use Rattle.std.specs.Prelude.{IsTrue, MatchOption, OnOk}
-use Rattle.std.proofs.Common.{◌≡◌, ◌≢◌, refl, sym, ap, ◌∙◌, subst, ℕ, ◌+◌, ◌-◌, Option, None, Some, Result, Ok, Err, ◌<◌, ◌≤◌, ⊎_elim, inl, inr, List, [], ◌∷◌, ◌++◌, length, get_or, arith}
+use Rattle.std.proofs.Common.{◌≡◌, ◌≢◌, refl, sym, ap, ◌∙◌, subst, ℕ, ◌+◌, ◌-◌, Option, None, Some, Bool, Result, Ok, Err, ◌<◌, ◌≤◌, ⊎_elim, inl, inr, List, [], ◌∷◌, ◌++◌, length, get_or, arith}
 use Rattle.std.specs.List.{Contains, HoldsAt}
 use Rattle.std.specs.List.Sorted.{IsPermutation}
 use Rattle.std.proofs.lemmas.Bool.{cases_eq, cases_lt}
@@ -144,12 +144,12 @@ none_due a room due none past all q live p bears = elim (due p q live bears) [
 ]
 
 -- ---- an arena that shrinks
-module _ (a b : ArenaState) (h : Shrinks a b) (first : ℕ) (lists : List (List ℕ)) (signatures : List ℕ) (index : IsIndexed a first (length a.clauses) lists signatures) where
-  pub still_indexed : IsIndexed b first (length a.clauses) lists signatures
+module _ (a b : ArenaState) (h : Shrinks a b) (first : ℕ) (lists : List (List ℕ)) (chosen : List Bool) (signatures : List ℕ) (index : IsIndexed a first (length a.clauses) lists chosen signatures) where
+  pub still_indexed : IsIndexed b first (length a.clauses) lists chosen signatures
   still_indexed = record {
     each = index.each;
     known = λ q low live. let w = h.was q low live in subst (λ (lits : List Literal). AreKnown lists lits) (sym w.1) (index.known q low w.0);
-    listed = λ q past low live. let w = h.was q low live in subst (λ (lits : List Literal). IsListed lists lits q) (sym w.1) (index.listed q past low w.0);
+    listed = λ q past low live. let w = h.was q low live in subst (λ (lits : List Literal). IsListed lists chosen lits q) (sym w.1) (index.listed q past low w.0);
     signed = λ q low live. let w = h.was q low live in subst (IsSignature (get_or signatures q 0)) (sym w.1) (index.signed q low w.0);
   }
 
@@ -238,8 +238,8 @@ module _ (a : ArenaState) (pair : Pair) (h : IsPair a pair) where
   part_bears = bears.2
 
 -- ---- all clauses, one after another
-pub nothing_indexed : (a : ArenaState) (first : ℕ) (lists : List (List ℕ)) (signatures : List ℕ) → signatures ≡ [] → IsIndexed a first 0 lists signatures
-nothing_indexed a first lists signatures none = record {
+pub nothing_indexed : (a : ArenaState) (first : ℕ) (lists : List (List ℕ)) (chosen : List Bool) (signatures : List ℕ) → signatures ≡ [] → IsIndexed a first 0 lists chosen signatures
+nothing_indexed a first lists chosen signatures none = record {
   each = ap (λ (ss : List ℕ). length ss) none;
   known = λ q low live. absurd (omega (arith, low));
   listed = λ q past low live. absurd (omega (arith, low));

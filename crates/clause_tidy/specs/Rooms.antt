@@ -40,7 +40,7 @@ pub record KeepsLook (old new : TidyRoom) : Type 0 where
 
 -- All clauses of the arena are in the index, the new ones also in its lists, and what is not tidy is due.
 pub record IsRoomFor (a : ArenaState) (room : TidyRoom) : Type 0 where
-  pub indexed : IsIndexed a room.index.first (length a.clauses) room.index.lists room.index.signatures.items
+  pub indexed : IsIndexed a room.index.first (length a.clauses) room.index.lists room.index.chosen.items room.index.signatures.items
   pub first : room.index.first ≤ room.from
   pub from : room.from ≤ length a.clauses
   pub marks : length room.look.marks.items ≡ 2 * length room.index.lists

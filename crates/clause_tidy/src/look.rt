@@ -1,15 +1,15 @@
 //! A look at a clause as a part: of which clauses it may be one.
-ghost use Rattle.std.specs.Prelude.{◌≡◌, ◌+◌, ◌*◌, ◌<◌, ◌≤◌, ◌^◌, [], ℕ, length, IfOk, OnOk, IsTrue, Contains};
+ghost use Rattle.std.specs.Prelude.{◌≡◌, ◌⊎◌, ◌+◌, ◌*◌, ◌<◌, ◌≤◌, ◌^◌, [], ℕ, true, length, IfOk, IfSome, OnOk, IsTrue, Contains};
 ghost use Rattle.clause_arena.specs.Clauses.{IsLive, literals_at};
 ghost use Rattle.cx_base.specs.Literals.{Literal};
 ghost use Rattle.clause_tidy.specs.Indexes.{IsIndexed, AreKnown};
 ghost use Rattle.clause_tidy.specs.Listing.{list_of};
-ghost use Rattle.clause_tidy.specs.Looks.{IsBlankFor, IsLookAt, HasWholesOf};
+ghost use Rattle.clause_tidy.specs.Looks.{HasChosenAt, IsBlankFor, IsChosenIn, IsLookAt, HasWholesOf};
 ghost use Rattle.clause_tidy.specs.Marks.{AreClear, HaveRoom};
 ghost use Rattle.clause_tidy.specs.Pairs.{Bears};
 
 use crate::index::Index;
-use crate::lists::VariableLists;
+use crate::lists::{VariableLists, is_chosen};
 use crate::marks::{clear, mark, may_bear};
 use crate::signatures::signature;
 use clause_arena::Arena;
@@ -74,7 +74,7 @@ impl Look {
     /// Whether the part may bear on this clause.
     fn may_find(&self, index: &Index, arena: &Arena, clause: ClauseRef) -> bool
         requires look { IsLookAt arena.now self.now }
-        requires indexed { IsIndexed arena.now index.now.first (length arena.now.clauses) index.now.lists index.now.signatures.items }
+        requires indexed { IsIndexed arena.now index.now.first (length arena.now.clauses) index.now.lists index.now.chosen.items index.now.signatures.items }
         ensures { IsLive arena.now clause → Bears arena.now self.now.part clause → IsTrue result }
     {
         clause != self.part
@@ -92,7 +92,7 @@ impl Look {
         found: &mut Vec<ClauseRef>,
     ) -> Result<(), AllocError>
         requires look { IsLookAt arena.now self.now }
-        requires indexed { IsIndexed arena.now index.now.first (length arena.now.clauses) index.now.lists index.now.signatures.items }
+        requires indexed { IsIndexed arena.now index.now.first (length arena.now.clauses) index.now.lists index.now.chosen.items index.now.signatures.items }
         requires none { found.old.items ≡ [] }
         ensures { OnOk result (HasWholesOf arena.now self.now.part (Contains list.now) found.new.items) }
     {
@@ -104,7 +104,27 @@ impl Look {
         Ok(())
     }
 
-    /// Finds all clauses on which the part may bear, of those in the lists.
+    /// Finds all clauses on which the part may bear, where it has no chosen variable.
+    fn find_all(
+        &self,
+        index: &Index,
+        arena: &Arena,
+        found: &mut Vec<ClauseRef>,
+    ) -> Result<(), AllocError>
+        requires look { IsLookAt arena.now self.now }
+        requires indexed { IsIndexed arena.now index.now.first (length arena.now.clauses) index.now.lists index.now.chosen.items index.now.signatures.items }
+        ensures { OnOk result (HasWholesOf arena.now self.now.part (λ q. q < length arena.now.clauses) found.new.items) }
+    {
+        for place in 0..arena.len() {
+            let clause = ClauseRef::new(place as u32);
+            if self.may_find(index, arena, clause) {
+                found.push(clause)?;
+            }
+        }
+        Ok(())
+    }
+
+    /// Finds all clauses on which the part may bear, of those from the first one of the lists on.
     fn find(
         &self,
         index: &Index,
@@ -113,16 +133,14 @@ impl Look {
     ) -> Result<(), AllocError>
         requires live { IsLive arena.now self.now.part }
         requires look { IsLookAt arena.now self.now }
-        requires indexed { IsIndexed arena.now index.now.first (length arena.now.clauses) index.now.lists index.now.signatures.items }
+        requires indexed { IsIndexed arena.now index.now.first (length arena.now.clauses) index.now.lists index.now.chosen.items index.now.signatures.items }
         requires none { found.old.items ≡ [] }
         ensures { OnOk result (HasWholesOf arena.now self.now.part (λ q. index.now.first ≤ q) found.new.items) }
     {
-        let lits = arena.lits(self.part);
-        if lits.is_empty() {
-            return find_all(arena, found);
+        match rarest(&index.lists, &index.chosen, arena.lits(self.part)) {
+            Some(lit) => self.find_in(index, arena, index.lists.of(lit.var()), found),
+            None => self.find_all(index, arena, found),
         }
-        let lit = rarest(&index.lists, lits);
-        self.find_in(index, arena, index.lists.of(lit.var()), found)
     }
 
     /// Looks at this clause: finds all clauses on which it may bear, of those in the lists.
@@ -134,7 +152,7 @@ impl Look {
         found: &mut Vec<ClauseRef>,
     ) -> Result<(), AllocError>
         requires live { IsLive arena.now part }
-        requires indexed { IsIndexed arena.now index.now.first (length arena.now.clauses) index.now.lists index.now.signatures.items }
+        requires indexed { IsIndexed arena.now index.now.first (length arena.now.clauses) index.now.lists index.now.chosen.items index.now.signatures.items }
         requires blank { IsBlankFor index.now.lists self.old }
         requires none { found.old.items ≡ [] }
         ensures found { OnOk result (HasWholesOf arena.now part (λ q. index.now.first ≤ q) found.new.items) }
@@ -148,28 +166,38 @@ impl Look {
     }
 }
 
-/// The literal of a clause whose variable's list is the shortest.
-fn rarest(lists: &VariableLists, lits: &[Lit]) -> Lit
-    requires some { 1 ≤ length lits.now }
-    requires known { AreKnown lists.now lits.now }
-    ensures { Contains lits.now result }
+/// Whether the first of two places of literals has a variable with a shorter list, or there is no other.
+fn is_shorter(lists: &VariableLists, lits: &[Lit], place: usize, other: usize) -> bool
+    requires { place < length lits.now }
 {
-    let mut rarest = lits[0];
-    for lit in lits {
-        if lists.of(lit.var()).len() < lists.of(rarest.var()).len() {
-            rarest = *lit;
-        }
-    }
-    rarest
+    other >= lits.len() || lists.len_of(lits[place].var()) < lists.len_of(lits[other].var())
 }
 
-/// Finds all references.
-fn find_all(arena: &Arena, found: &mut Vec<ClauseRef>) -> Result<(), AllocError>
-    requires { found.old.items ≡ [] }
-    ensures { OnOk result ((q : ℕ) → q < length arena.now.clauses → Contains found.new.items q) }
+/// The place of the rarer literal of the two. Only a chosen variable's counts.
+fn rarer(lists: &VariableLists, chosen: &[bool], lits: &[Lit], place: usize, other: usize) -> usize
+    requires { place < length lits.now }
+    ensures { (result ≡ other) ⊎ ((result ≡ place) × HasChosenAt chosen.now lits.now place) }
 {
-    for place in 0..arena.len() {
-        found.push(ClauseRef::new(place as u32))?;
+    if !is_chosen(chosen, lits[place].var()) {
+        return other;
     }
-    Ok(())
+    if is_shorter(lists, lits, place, other) {
+        return place;
+    }
+    other
+}
+
+/// The literal of a clause whose variable's list is the shortest, of those of chosen variables.
+fn rarest(lists: &VariableLists, chosen: &[bool], lits: &[Lit]) -> Option<Lit>
+    ensures { IfSome result (IsChosenIn chosen.now lits.now) }
+{
+    let mut rarest = lits.len();
+    for place in 0..lits.len() {
+        rarest = rarer(lists, chosen, lits, place, rarest);
+    }
+    if rarest < lits.len() {
+        Some(lits[rarest])
+    } else {
+        None
+    }
 }

@@ -88,9 +88,9 @@ impl TidyRoom {
 
     /// Takes in the clause of the next reference, which waits then where it is a new one.
     fn enter(&mut self, arena: &Arena, clause: ClauseRef) -> Result<(), AllocError>
-        requires indexed { IsIndexed arena.now self.old.index.first clause self.old.index.lists self.old.index.signatures.items }
+        requires indexed { IsIndexed arena.now self.old.index.first clause self.old.index.lists self.old.index.chosen.items self.old.index.signatures.items }
         requires known { IsLive arena.now clause → AreKnown self.old.index.lists (literals_at arena.now clause) }
-        ensures indexed { OnOk result (IsIndexed arena.now self.new.index.first (clause + 1) self.new.index.lists self.new.index.signatures.items) }
+        ensures indexed { OnOk result (IsIndexed arena.now self.new.index.first (clause + 1) self.new.index.lists self.new.index.chosen.items self.new.index.signatures.items) }
         ensures lists { OnOk result (length self.new.index.lists ≡ length self.old.index.lists) }
         ensures kept { OnOk result ((place p : ℕ) → IsWaiting self.old.queue.items place p → IsWaiting self.new.queue.items place p) }
         ensures waits { OnOk result ((place : ℕ) → self.old.from ≤ clause → IsLive arena.now clause → place ≤ length self.old.queue.items → IsWaiting self.new.queue.items place clause) }
@@ -108,7 +108,7 @@ impl TidyRoom {
     fn fill(&mut self, arena: &Arena) -> Result<(), AllocError>
         requires known { (r : ℕ) → IsLive arena.now r → AreKnown self.old.index.lists (literals_at arena.now r) }
         requires none { self.old.index.signatures.items ≡ [] }
-        ensures indexed { OnOk result (IsIndexed arena.now self.new.index.first (length arena.now.clauses) self.new.index.lists self.new.index.signatures.items) }
+        ensures indexed { OnOk result (IsIndexed arena.now self.new.index.first (length arena.now.clauses) self.new.index.lists self.new.index.chosen.items self.new.index.signatures.items) }
         ensures lists { OnOk result (length self.new.index.lists ≡ length self.old.index.lists) }
         ensures waits { OnOk result ((p : ℕ) → self.old.from ≤ p → IsLive arena.now p → IsWaiting self.new.queue.items 0 p) }
         ensures keeps { OnOk result (KeepsLook self.old self.new) }

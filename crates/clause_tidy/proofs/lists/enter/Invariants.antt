@@ -7,5 +7,5 @@ abbrev pub invariant-loop-lit : goal.invariant-loop-lit
 invariant-loop-lit l = record {
   count : length l.lists ≡ length l.fn.lists;
   kept : KeepsEntries l.fn.lists l.lists;
-  listed : IsListed l.lists (take l.lit-index l.lits) l.clause;
+  listed : IsListed l.lists l.chosen (take l.lit-index l.lits) l.clause;
 }

@@ -1,5 +1,7 @@
-use Rattle.std.specs.List.{Contains}
+use Rattle.std.proofs.Common.{◌<◌, length}
+use Rattle.clause_tidy.specs.Looks.{HasChosenAt}
 use Rattle.clause_tidy.proofs.look.rarest.Given as goal
 
-abbrev pub invariant-loop-lit : goal.invariant-loop-lit
-invariant-loop-lit l = Contains l.lits l.rarest
+-- what was found has a chosen variable
+abbrev pub invariant-loop-place : goal.invariant-loop-place
+invariant-loop-place l = l.rarest < length l.lits → HasChosenAt l.chosen l.lits l.rarest

@@ -6,7 +6,7 @@ use Rattle.clause_tidy.proofs.index.Index.complete.Given as goal
 abbrev pub invariant-loop-self : goal.invariant-loop-self
 invariant-loop-self l = record {
   within : l.self.first ≤ length l.arena.clauses;
-  indexed : IsIndexed l.arena l.self.first (length l.arena.clauses) l.self.lists l.self.signatures.items;
+  indexed : IsIndexed l.arena l.self.first (length l.arena.clauses) l.self.lists l.self.chosen.items l.self.signatures.items;
   lists : length l.self.lists ≡ length l.fn.self.lists;
 }
 

@@ -19,7 +19,7 @@ returns-then-before-len c =
     let long = c.len.ensures.len in
     let eq : length a.clauses ≡ length b.clauses = omega (arith, was, same, long) in
     record {
-      indexed = subst (λ n. IsIndexed b room.index.first n room.index.lists room.index.signatures.items) eq (still_indexed a b w.2 room.index.first room.index.lists room.index.signatures.items w.3.indexed);
+      indexed = subst (λ n. IsIndexed b room.index.first n room.index.lists room.index.chosen.items room.index.signatures.items) eq (still_indexed a b w.2 room.index.first room.index.lists room.index.chosen.items room.index.signatures.items w.3.indexed);
       first = w.3.first;
       from = let from = w.3.from in omega (arith, from, eq);
       marks = w.3.marks;
@@ -32,7 +32,7 @@ pub enter-requires-clause-indexed : goal.enter-requires-clause-indexed
 enter-requires-clause-indexed c =
     let w = c.requires.room in
     let index = c.args.self.now.index in
-    subst (λ n. IsIndexed c.args.arena.now index.first n index.lists index.signatures.items) (sym w.1 ∙ sym c.new-clause.ensures) (still_indexed w.0 c.args.arena.now w.2 index.first index.lists index.signatures.items w.3.indexed)
+    subst (λ n. IsIndexed c.args.arena.now index.first n index.lists index.chosen.items index.signatures.items) (sym w.1 ∙ sym c.new-clause.ensures) (still_indexed w.0 c.args.arena.now w.2 index.first index.lists index.chosen.items index.signatures.items w.3.indexed)
 
 pub enter-requires-clause-known : goal.enter-requires-clause-known
 enter-requires-clause-known c =
@@ -43,7 +43,7 @@ enter-requires-clause-known c =
     let was = w.1 in
     let is = c.new-clause.ensures in
     let past : length a.clauses ≤ r = omega (arith, was, is) in
-    λ live. new_is_known a c.args.arena.now w.2 index.first index.lists index.signatures.items w.3.indexed r past live
+    λ live. new_is_known a c.args.arena.now w.2 index.first index.lists index.chosen.items index.signatures.items w.3.indexed r past live
 
 pub returns : goal.returns
 returns c =
@@ -71,7 +71,7 @@ returns c =
     let same_first = kept.first in
     let same_from = kept.from in
     record {
-      indexed = subst (λ n. IsIndexed b mid.index.first n mid.index.lists mid.index.signatures.items) all entered.indexed;
+      indexed = subst (λ n. IsIndexed b mid.index.first n mid.index.lists mid.index.chosen.items mid.index.signatures.items) all entered.indexed;
       first = omega (arith, first, same_first, same_from);
       from = omega (arith, old_in, same_from, grown);
       marks = ap (λ (l : Look). length l.marks.items) kept.look ∙ w.3.marks ∙ ap (λ (n : ℕ). 2 * n) (sym entered.lists);

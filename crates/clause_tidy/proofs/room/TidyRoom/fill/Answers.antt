@@ -5,14 +5,14 @@ use Rattle.clause_tidy.proofs.room.TidyRoom.fill.Goals as goal
 
 pub loop-place-init : goal.loop-place-init
 loop-place-init c = record {
-  indexed = let index = c.args.self.now.index in nothing_indexed c.args.arena.now index.first index.lists index.signatures.items c.requires.none;
+  indexed = let index = c.args.self.now.index in nothing_indexed c.args.arena.now index.first index.lists index.chosen.items index.signatures.items c.requires.none;
   lists = refl;
   waits = λ p low past live. absurd (omega (arith, low));
   keeps = record { look = refl; first = refl; from = refl; passed = refl; place = refl; found = refl };
 }
 
 pub enter-requires-clause-indexed : goal.enter-requires-clause-indexed
-enter-requires-clause-indexed c = let index = c.loop-place.self.index in subst (λ n. IsIndexed c.args.arena.now index.first n index.lists index.signatures.items) (sym c.new.ensures) c.loop-place.invariant.indexed
+enter-requires-clause-indexed c = let index = c.loop-place.self.index in subst (λ n. IsIndexed c.args.arena.now index.first n index.lists index.chosen.items index.signatures.items) (sym c.new.ensures) c.loop-place.invariant.indexed
 
 pub enter-requires-clause-known : goal.enter-requires-clause-known
 enter-requires-clause-known c = λ live k d low. let known = c.requires.known c.new.result live k d low in let same = c.loop-place.invariant.lists in omega (arith, known, same)
@@ -25,7 +25,7 @@ loop-place-preserved c =
     let keeps = c.enter.ensures.keeps in
     let same = before.keeps.from in
     record {
-      indexed = subst (λ n. IsIndexed c.args.arena.now index.first (n + 1) index.lists index.signatures.items) c.new.ensures entered.indexed;
+      indexed = subst (λ n. IsIndexed c.args.arena.now index.first (n + 1) index.lists index.chosen.items index.signatures.items) c.new.ensures entered.indexed;
       lists = entered.lists ∙ before.lists;
       waits = all_wait_more c.args.arena.now c.loop-place.self.queue.items c.enter.new.self.queue.items c.args.self.now.from c.loop-place.place c.new.result c.new.ensures entered.kept
           (λ place past live low. entered.waits place (omega (arith, past, same)) live low) before.waits;
