@@ -225,7 +225,7 @@ module _ {L : Type 0} (m : sink.Ghosts L LogEvent) (old new : SearchLog L) (form
         let r = again.1 s.moment.tables agreed in
         goes_on steps own None told (left_then steps own r.0 r.1) counts failed (λ why. no_tear why)
     ok_goes_on (Ended lits) none (steps, told, own, ends) counts failed =
-        goes_on steps own None told (ended_is_left steps own lits (ends s.moment.tables agreed) (m.items old.sink.now) stands.2) counts failed (λ why. no_tear why)
+        goes_on steps own None told (ended_is_left steps own lits (ends.1 s.moment.tables agreed) (m.items old.sink.now) stands.2) counts failed (λ why. no_tear why)
 
     pub ok_tidies : (o : TidyOf)
         → IfDone (Ok o) (λ units ids. Tidied b units)
@@ -246,4 +246,4 @@ module _ {L : Type 0} (m : sink.Ghosts L LogEvent) (old new : SearchLog L) (form
         (stands_beside formula c e s ok t at highest_id agreed steps own b units ids d proper (m.items old.sink.now) stands.2, each, can_be_watched formula c e s ok t at highest_id agreed steps own b units ids d proper, tidied))
     ok_tidies (Ended lits) tidied each covers derived parts learned wide was none (steps, told, own, ends) =
         subst (λ f. TidiesSearch f (record c { arena = b }) e (m.items new.sink.now) (Ended lits)) (sym formula_is)
-        (subst (λ o. TidiesSearch formula (record c { arena = b }) e o (Ended lits)) (sym told) (refutes steps own lits (ends s.moment.tables agreed)))
+        (subst (λ o. TidiesSearch formula (record c { arena = b }) e o (Ended lits)) (sym told) (refutes steps own lits (ends.1 s.moment.tables agreed)))

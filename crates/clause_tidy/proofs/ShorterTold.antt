@@ -26,6 +26,7 @@ use Rattle.clause_tidy.proofs.ShorterRuns.{without_inside, runs_shortening, firs
 use Rattle.clause_tidy.proofs.ShorterTidies.{rest_derived, shortening_tidies}
 use Rattle.clause_tidy.proofs.Spelling.{spells, none_above, within_part}
 use Rattle.clause_tidy.proofs.Tellings.{run_is_right, one_is_right, tells_tidily}
+use Rattle.clause_tidy.proofs.WeightLaws.{some_weight}
 
 -- ---- the arena with one more clause, and then without the old one
 pub set_front : {X : Type 0} (xs ys : List X) (i : ℕ) (v : X) → i < length xs → set (xs ++ ys) i v ≡ set xs i v ++ ys
@@ -84,5 +85,5 @@ module _ (formula : Problem) (spare : ℕ) (a : ArenaState) (k r : ℕ) (live : 
       (λ t e. record {
         ending = all;
         derived = rest_derived a k r live_k live rest s;
-        ends = λ tables h. ends_there formula spare tables.clauses tables.parities a r k live live_k rest s.m (integers_of rest) h s.has_m s.at s.by_ok s.ok s.is are low (same_end ∙ all);
+        ends = (let some = some_weight a r live in omega (arith, some), λ tables h. ends_there formula spare tables.clauses tables.parities a r k live live_k rest s.m (integers_of rest) h s.has_m s.at s.by_ok s.ok s.is are low (same_end ∙ all));
       })

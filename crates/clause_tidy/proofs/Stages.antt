@@ -1,5 +1,5 @@
 -- Stages of a tidying.
-use Rattle.std.proofs.Common.{refl, sym, ap, ◌∙◌, subst, ℕ, List, [], ◌∷◌, ◌++◌, Option, Some, None, Result, Ok, append_assoc}
+use Rattle.std.proofs.Common.{refl, sym, ap, ◌∙◌, subst, ℕ, List, [], ◌∷◌, ◌++◌, Option, Some, None, Result, Ok, append_assoc, length-append, arith}
 use Rattle.cx_base.specs.Literals.{Literal}
 use Rattle.cx_base.specs.Problem.{Problem}
 use Rattle.cx_base.specs.declared.steps.LogEvent.{LogEvent}
@@ -37,20 +37,23 @@ first_stage m formula spare a first keeps = record { steps = []; told = sym (no_
 
 -- an ending after a stage
 end_on : (formula : Problem) (spare : ℕ) (a b : ArenaState) (lits : List Literal) (ss ts : List LogStep) → Tidies formula spare a b ss → EndsFrom formula spare b lits ts → EndsFrom formula spare a lits (ss ++ ts)
-end_on formula spare a b lits ss ts h k tables agree =
-    let x = h.runs tables agree in
-    let e = k x.0 x.2 in
-    record {
-      before = ss ++ e.before;
-      step = e.step;
-      split = ap (λ us. ss ++ us) e.split ∙ sym (append_assoc ss e.before (e.step ∷ []));
-      last = e.last;
-      runs = run_on formula tables x.0 e.last ss e.before x.1 e.runs;
-      right = e.right;
-      ends = e.ends;
-      adds = e.adds;
-      by_chain = e.by_chain;
-    }
+end_on formula spare a b lits ss ts h k = (
+  (let first = h.few in let then = k.0 in let both = length-append ss ts in omega (arith, first, then, both)),
+  λ tables agree.
+      let x = h.runs tables agree in
+      let e = k.1 x.0 x.2 in
+      record {
+        before = ss ++ e.before;
+        step = e.step;
+        split = ap (λ us. ss ++ us) e.split ∙ sym (append_assoc ss e.before (e.step ∷ []));
+        last = e.last;
+        runs = run_on formula tables x.0 e.last ss e.before x.1 e.runs;
+        right = e.right;
+        ends = e.ends;
+        adds = e.adds;
+        by_chain = e.by_chain;
+      },
+)
 
 pub mend_on : (formula : Problem) (spare : ℕ) (a b c : ArenaState) (ss ts : List LogStep) (ended : Option (List Literal)) → Tidies formula spare a b ss → MendsTo formula spare b c ended ts → MendsTo formula spare a c ended (ss ++ ts)
 mend_on formula spare a b c ss ts (Some lits) h k = record {

@@ -30,6 +30,10 @@ less_without a b r live e =
     let three = ap weights e in
     omega (arith, one, two, three)
 
+-- an arena with a clause weighs something
+pub some_weight : (a : ArenaState) (r : ℕ) → IsLive a r → 0 < weight a
+some_weight a r live = let less = less_without a (record a { clauses = set a.clauses r None }) r live refl in omega (arith, less)
+
 pub same_kept : (a b : ArenaState) (k : ℕ) → IsLive a k → b.clauses ≡ set a.clauses k (kept (clause_at a k)) → weight b ≡ weight a
 unfolding weight
 same_kept a b k live e =

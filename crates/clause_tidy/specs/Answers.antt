@@ -1,5 +1,5 @@
 -- What calls of a tidying leave: the arena, and the log up to an answer.
-use Rattle.std.specs.Prelude.{◌≡◌, ◌≢◌, ◌⊎◌, ℕ, false, List, Option, Some, None, Result, OnErr, IfOk, IsTrue, IsFalse}
+use Rattle.std.specs.Prelude.{◌≡◌, ◌≢◌, ◌⊎◌, ◌*◌, ◌≤◌, ℕ, false, List, length, Option, Some, None, Result, OnErr, IfOk, IsTrue, IsFalse}
 use Rattle.std.specs.List.{AllByRecursion}
 use Rattle.cx_base.specs.Assumptions.{is_ending}
 use Rattle.cx_base.specs.Literals.{Literal}
@@ -23,6 +23,7 @@ use Rattle.tidy_rules.specs.Runs.{RunsTidily, EndsTidily}
 use Rattle.clause_tidy.specs.Telling.{IsTellable, as_events, with_events}
 use Rattle.clause_tidy.specs.Derived.{IsDerived}
 use Rattle.clause_tidy.specs.Tidying.{IsClauseOf, Tidies}
+use Rattle.clause_tidy.specs.Weights.{weight}
 
 -- what each call of a tidying may count on
 pub record MayTidy {L : Type 0} (m : sink.Ghosts L LogEvent) (formula : Problem) (spare : ℕ) (a : ArenaState) (log : L) : Type 0 where
@@ -45,9 +46,9 @@ MayGo a r = IsTrue (is_tautology (literals_at a r)) ⊎ ((q : ℕ) × (q ≢ r) 
 abbrev pub IsRightFrom : Problem → ℕ → ArenaState → List LogStep → Type 0
 IsRightFrom formula spare a steps = (tables : Tables) → Agrees spare tables.clauses a → (last : Tables) × RunsTidily formula tables steps last
 
--- where a log agrees with the arena, these steps end it, by a clause of these literals
+-- There are at most four steps for each clause and literal. Where a log agrees with the arena, they end it, by a clause of these literals.
 abbrev pub EndsFrom : Problem → ℕ → ArenaState → List Literal → List LogStep → Type 0
-EndsFrom formula spare a lits steps = (tables : Tables) → Agrees spare tables.clauses a → EndsTidily formula tables lits steps
+EndsFrom formula spare a lits steps = (length steps ≤ 4 * weight a) × ((tables : Tables) → Agrees spare tables.clauses a → EndsTidily formula tables lits steps)
 
 -- A clause of these literals is an ending one and was derived from the arena's clauses. The last of the steps adds it.
 pub record IsEnded (formula : Problem) (spare : ℕ) (a : ArenaState) (lits : List Literal) (steps : List LogStep) : Type 0 where
