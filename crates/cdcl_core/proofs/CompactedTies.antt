@@ -30,7 +30,8 @@ use Rattle.cx_semantics.specs.Tables.{Table}
 use Rattle.cdcl_search.specs.declared.state.SearchState.{SearchState}
 use Rattle.tidy_rules.specs.Tidied.{HasTwo}
 use Rattle.cdcl_search.specs.Ties.{Ties, SearchStands, IsClauseReasonOf, IsWatched, ClauseTies, AreLearned, IsKept, IsNamedBy, IsHeld, NeedsNoLearned, AreUnits, HasReasonOf, ReasonTies, AgreesUpTo}
-use Rattle.cdcl_core.specs.Compacting.{IsCompacted, StandsStill, LeavesNoOldName}
+use Rattle.cdcl_core.specs.Compacting.{IsCompacted, MovesBelow, StandsStill, LeavesNoOldName}
+use Rattle.cdcl_core.proofs.TidyBefore.{tidy_moved}
 
 -- ---- the trail
 module _ (moves : List Move) where
@@ -127,12 +128,13 @@ module _ (a b : ArenaState) (moves : List Move) (f : IsRenamed a b moves) where
       let moved = clause_moved a b moves was.0 s f was.1 in
       ap (λ o. is_among ids (id_in o)) moved.1 ∙ all was.0 moved.0 (ap learned_in (sym moved.1) ∙ is)
 
-  clauses_moved : (tidies : Bool) (formula : Problem) (table : Table) (next : ℕ) (fixed : List Literal) → ClauseTies tidies formula table next a fixed → ClauseTies tidies formula table next b fixed
-  clauses_moved tidies formula table next fixed t = record {
+  clauses_moved : (tidies : Bool) (formula : Problem) (table : Table) (next m n : ℕ) (fixed : List Literal) → MovesBelow moves b m n → ClauseTies tidies formula table next a m fixed → ClauseTies tidies formula table next b n fixed
+  clauses_moved tidies formula table next m n fixed below t = record {
     stored = stored_moved formula table next t.stored;
     covered = λ n clause low is. held_moved tidies fixed n clause (t.covered n clause low is);
     apart = apart_moved t.apart;
     original = λ clause is. needs_moved fixed clause (t.original clause is);
+    old = tidy_moved a b moves f m n below t.old;
   }
 
   -- ---- the reasons
@@ -178,15 +180,15 @@ module _ (a b : ArenaState) (moves : List Move) (f : IsRenamed a b moves) where
   named_live (reason.Row row) s is = cc
 
 -- ---- the whole
-module _ (formula : Problem) (c : SearchState) (e : State) (rows : List (List Literal)) (s : Search) (moves : List Move) (b : ArenaState) (w : WatchState)
-    (f : IsRenamed c.arena b moves) (r : AreRenamed moves c.watches w) (sound : IsCodeTrail (record c.trail { entries = map (renamed moves) c.trail.entries })) where
+module _ (formula : Problem) (c : SearchState) (e : State) (rows : List (List Literal)) (s : Search) (moves : List Move) (b : ArenaState) (w : WatchState) (n : ℕ)
+    (f : IsRenamed c.arena b moves) (r : AreRenamed moves c.watches w) (below : MovesBelow moves b c.tidy_below n) (sound : IsCodeTrail (record c.trail { entries = map (renamed moves) c.trail.entries })) where
   abbrev d : SearchState
-  d = record c { arena = b; watches = w; trail = record c.trail { entries = map (renamed moves) c.trail.entries } }
+  d = record c { arena = b; watches = w; tidy_below = n; trail = record c.trail { entries = map (renamed moves) c.trail.entries } }
 
   ties_moved : Ties formula c e rows s → Ties formula d e rows s
   ties_moved t = record {
     log = t.log;
-    clauses = clauses_moved c.arena b moves f c.tidies formula s.moment.tables.clauses c.next _ t.clauses;
+    clauses = clauses_moved c.arena b moves f c.tidies formula s.moment.tables.clauses c.next c.tidy_below n _ below t.clauses;
     learned = learned_moved c.arena b moves f s.moment.learned t.learned;
     trail = record {
       follows = record { tied = tied_moved moves s.trail c.trail.entries t.trail.follows.tied; sound = sound };
@@ -215,8 +217,8 @@ stands_moved moves c new is sound formula e rows told (s, ok, are, ties, watched
       s,
       ok,
       are,
-      ties_moved formula c e rows s moves new.arena new.watches is.arena is.watches sound_then ties,
-      watched_moved formula c e rows s moves new.arena new.watches is.arena is.watches sound_then watched,
+      ties_moved formula c e rows s moves new.arena new.watches new.tidy_below is.arena is.watches is.tidy_below sound_then ties,
+      watched_moved formula c e rows s moves new.arena new.watches new.tidy_below is.arena is.watches is.tidy_below sound_then watched,
     )
 
 pub names_live : (moves : List Move) (c new : SearchState) → IsCompacted moves c new → IsCodeTrail new.trail → LeavesNoOldName c new

@@ -162,7 +162,7 @@ module _ (formula : Problem) (c : SearchState) (e : State) (lits : List Literal)
       omega (arith, was, rows, one, next, mark, cost)
 
   -- the ties, but for what differs where the clause has one literal
-  pub ties_entered : ClauseTies D.tidies formula after.moment.tables.clauses (c.next + 1) D.arena (held 0 after.trail) → AreLearned D.arena after.moment.learned → AreUnits after.moment.tables.clauses (c.next + 1) D.trail after.trail D.units.items → HaveReasons D e1
+  pub ties_entered : ClauseTies D.tidies formula after.moment.tables.clauses (c.next + 1) D.arena D.tidy_below (held 0 after.trail) → AreLearned D.arena after.moment.learned → AreUnits after.moment.tables.clauses (c.next + 1) D.trail after.trail D.units.items → HaveReasons D e1
       → length c1.units.items ≤ length D.units.items → Ties formula D e1 [] after
   ties_entered clauses learned units reasons more = record {
     log = record {
@@ -182,7 +182,7 @@ module _ (formula : Problem) (c : SearchState) (e : State) (lits : List Literal)
         new_sums = (tidy formula c e lits back s taught hints).no_new_sums;
       };
     };
-    clauses = subst (λ n. ClauseTies D.tidies formula after.moment.tables.clauses n D.arena (held 0 after.trail)) (sym put.next) clauses;
+    clauses = subst (λ n. ClauseTies D.tidies formula after.moment.tables.clauses n D.arena D.tidy_below (held 0 after.trail)) (sym put.next) clauses;
     learned = learned;
     trail = record {
       follows = follows_then;

@@ -32,10 +32,11 @@ use Rattle.cdcl_search.specs.Ties.{IsNamedBy, AreLearned, AreUnits, RestOnUnits,
 use Rattle.cdcl_search.proofs.Places.{tied_length}
 use Rattle.tidy_rules.specs.Tidied.{HasTwo}
 use Rattle.tidy_rules.proofs.OneLaws.{not_two}
-use Rattle.cdcl_search.specs.Ties.{IsKept, IsClauseReasonOf, IsHeld, NeedsNoLearned, IsWatched}
+use Rattle.cdcl_search.specs.Ties.{AreTidyBefore, IsKept, IsClauseReasonOf, IsHeld, NeedsNoLearned, IsWatched}
 use Rattle.cdcl_core.specs.Entering.{EntersUnit, EntersClause, HasCounts}
 use Rattle.cdcl_core.specs.Learning.{IsTaught}
 use Rattle.cdcl_core.proofs.Entering.{trail_is, get_new, learned_then, named_then, was}
+use Rattle.cdcl_core.proofs.TidyBefore.{tidy_added}
 use Rattle.cdcl_core.proofs.Entered.{true_more, kept_at, new_at, old_or_new, length_D, same_entry, same_take, last_entry, place, level_D, reason_stays, ties_entered, unit_stays}
 
 id_front : (xs : List ℕ) (y i : ℕ) → i < length xs → get_or (xs ++ y ∷ []) i 0 ≡ get_or xs i 0
@@ -221,8 +222,11 @@ module _ (formula : Problem) (c : SearchState) (e : State) (lits : List Literal)
               subst (λ x. HasReasonOf D.arena D.trail.entries e1 i x.reason) (sym here) (subst (λ k. IsClauseReasonOf D.arena D.trail.entries k (length c1.arena.clauses)) (sym is) (others_false others))
         ]
 
+    old_then : AreTidyBefore D.arena D.tidy_below
+    old_then = subst (AreTidyBefore D.arena) (sym enters.put.tidy_below) (tidy_added c1.arena D.arena c1.tidy_below (Some stored) enters.added t1.clauses.old)
+
     pub clause_ties : HasTwo lits → AreOthersFalse c1.trail.entries lits l → Ties formula D e1 [] after
-    clause_ties two others = ties_entered formula c e lits back s taught hints c1 e1 t1 takes o stands D reason counts enters.put (record { stored = stored_then two; covered = covered_then; apart = apart_then; original = original_then }) learned_one_more units_then (reasons_then others) (let count = ap length enters.units in omega (arith, count))
+    clause_ties two others = ties_entered formula c e lits back s taught hints c1 e1 t1 takes o stands D reason counts enters.put (record { stored = stored_then two; covered = covered_then; apart = apart_then; original = original_then; old = old_then }) learned_one_more units_then (reasons_then others) (let count = ap length enters.units in omega (arith, count))
 
   -- ---- one literal
   module _ (one : length lits ≡ 1) (none_above : back ≡ 0) (all_units : length c1.units.items ≡ length c1.trail.entries)
@@ -248,6 +252,9 @@ module _ (formula : Problem) (c : SearchState) (e : State) (lits : List Literal)
 
     unit_apart : (r q : ℕ) → IsLive D.arena r → IsLive D.arena q → id_at D.arena r ≡ id_at D.arena q → r ≡ q
     unit_apart = subst (λ a. (r q : ℕ) → IsLive a r → IsLive a q → id_at a r ≡ id_at a q → r ≡ q) (sym enters.arena) t1.clauses.apart
+
+    unit_old : AreTidyBefore D.arena D.tidy_below
+    unit_old = subst (AreTidyBefore D.arena) (sym enters.put.tidy_below) (subst (λ a. AreTidyBefore a c1.tidy_below) (sym enters.arena) t1.clauses.old)
 
     at_zero : level_of (back_to back s.trail) ≡ 0
     at_zero = Rattle.cdcl_core.proofs.Entering.level_then formula c e lits back s taught hints ∙ none_above
@@ -342,7 +349,7 @@ module _ (formula : Problem) (c : SearchState) (e : State) (lits : List Literal)
 
     pub unit_ties : Ties formula D e1 [] after
     unit_ties =
-        ties_entered formula c e lits back s taught hints c1 e1 t1 takes o stands D why.Decision counts enters.put (record { stored = unit_stored; covered = unit_covered; apart = unit_apart; original = unit_original }) unit_learned unit_units
+        ties_entered formula c e lits back s taught hints c1 e1 t1 takes o stands D why.Decision counts enters.put (record { stored = unit_stored; covered = unit_covered; apart = unit_apart; original = unit_original; old = unit_old }) unit_learned unit_units
         (λ i far h. absurd (let long = units_long in let trail_long = length_D formula c e lits back s taught hints c1 e1 t1 takes o stands D why.Decision counts enters.put in let a = all_units in omega (arith, far, h, long, trail_long, a)))
         (let long = units_long in omega (arith, long))
 

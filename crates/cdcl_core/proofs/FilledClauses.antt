@@ -138,6 +138,7 @@ nothing_is_filled formula c e = record {
   none_learned = e.none_learned;
   not_reduced = e.not_reduced;
   never_tidies = e.never_tidies;
+  none_tidy = e.none_tidy;
   stored = λ r live. absurd (no_clause r live);
   plain = λ r live. absurd (no_clause r live);
   apart = λ r q live more same. absurd (no_clause r live);
@@ -198,6 +199,7 @@ module _ (formula : Problem) (f : Filled) (lits : List Literal) (is : IsNext for
       none_learned = is.filled.none_learned;
       not_reduced = is.filled.not_reduced;
       never_tidies = is.filled.never_tidies;
+      none_tidy = is.filled.none_tidy;
       stored = λ r live. let st = is.filled.stored r live in let high = st.high in record { wide = st.wide; low = st.low; high = omega (arith, high); same = st.same; original = st.original };
       plain = is.filled.plain;
       apart = is.filled.apart;
@@ -323,6 +325,7 @@ module _ (formula : Problem) (f : Filled) (lits : List Literal) (is : IsNext for
       none_learned = a.learned ∙ is.filled.none_learned;
       not_reduced = a.reductions ∙ is.filled.not_reduced;
       never_tidies = a.tidies ∙ is.filled.never_tidies;
+      none_tidy = a.tidy_below ∙ is.filled.none_tidy;
       stored = stored_then long;
       plain = plain_then proper;
       apart = apart_then;

@@ -51,6 +51,7 @@ pub record GoesBack (k : ℕ) (c d : SearchState) (e f : State) : Type 0 where
   pub learned : d.learned ≡ c.learned
   pub reductions : d.reductions ≡ c.reductions
   pub tidies : d.tidies ≡ c.tidies
+  pub tidy_below : d.tidy_below ≡ c.tidy_below
   pub engine : f ≡ back k e
 
 named_kept : (k : ℕ) (o : Option Named) (n : Named) → o ≡ Some n → n.in_conflict ≡ false → n.level ≤ k → keep_named k o ≡ Some n
@@ -96,10 +97,12 @@ module _ (formula : Problem) (k : ℕ) (c d : SearchState) (e f : State) (rows :
 
   -- ---- clauses
   -- level 0 stays, and so do the arena, what is attached, and the next id
-  clauses_then : ClauseTies d.tidies formula s.moment.tables.clauses d.next d.arena (held 0 (back_to k s.trail))
-  clauses_then = subst (λ x. ClauseTies x formula s.moment.tables.clauses d.next d.arena (held 0 (back_to k s.trail))) (sym g.tidies) (subst (λ n. ClauseTies c.tidies formula s.moment.tables.clauses n d.arena (held 0 (back_to k s.trail))) (sym g.next)
-      (subst (λ a. ClauseTies c.tidies formula s.moment.tables.clauses c.next a (held 0 (back_to k s.trail))) (sym g.arena)
-      (subst (λ ls. ClauseTies c.tidies formula s.moment.tables.clauses c.next c.arena ls) (sym (held_back 0 k s.trail (omega arith))) t.clauses)))
+  clauses_then : ClauseTies d.tidies formula s.moment.tables.clauses d.next d.arena d.tidy_below (held 0 (back_to k s.trail))
+  clauses_then = subst (λ x. ClauseTies x formula s.moment.tables.clauses d.next d.arena d.tidy_below (held 0 (back_to k s.trail))) (sym g.tidies)
+      (subst (λ n. ClauseTies c.tidies formula s.moment.tables.clauses n d.arena d.tidy_below (held 0 (back_to k s.trail))) (sym g.next)
+      (subst (λ a. ClauseTies c.tidies formula s.moment.tables.clauses c.next a d.tidy_below (held 0 (back_to k s.trail))) (sym g.arena)
+      (subst (λ n. ClauseTies c.tidies formula s.moment.tables.clauses c.next c.arena n (held 0 (back_to k s.trail))) (sym g.tidy_below)
+      (subst (λ ls. ClauseTies c.tidies formula s.moment.tables.clauses c.next c.arena c.tidy_below ls) (sym (held_back 0 k s.trail (omega arith))) t.clauses))))
 
   -- ---- units
   unit_places : (i : ℕ) → i < length c.units.items → i < length d.trail.entries

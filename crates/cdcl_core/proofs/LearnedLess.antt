@@ -1,7 +1,7 @@
 -- One learned clause less: in the arena, in the log, and in the search.
 use Rattle.std.proofs.Common.{◌≡◌, ◌≢◌, refl, sym, ap, ◌∙◌, subst, ℕ, zero, suc, ◌+◌, ◌-◌, ◌*◌, ◌<◌, ◌≤◌, Bool, true, false, true≢false, not, cond, nat_eq, eqb-true, List, [], ◌∷◌, length, get_or, Option, Some, None, Contains, inl, inr, arith}
 use Rattle.std.specs.Prelude.{IsSome, IsTrue, IsFalse, slice_set, if◌then◌else◌}
-use Rattle.std.proofs.lemmas.List.{get_or-set_other}
+use Rattle.std.proofs.lemmas.List.{length-set, get_or-set_other}
 use Rattle.std.proofs.lemmas.List.FromFn.{length-range_with_len}
 use Rattle.std.proofs.lemmas.Bool.{and_parts, and_from}
 use Rattle.std.specs.FinMap as map_
@@ -43,6 +43,7 @@ use Rattle.cdcl_search.specs.declared.logs.SearchLog.{SearchLog}
 use Rattle.step_text.specs.declared.sink.Sink as sink
 use Rattle.cdcl_search.specs.Logs.{GoesOn}
 use Rattle.cdcl_search.specs.Tells.{IsLeft, with_events}
+use Rattle.cdcl_core.proofs.TidyBefore.{tidy_still}
 use Rattle.cdcl_search.specs.Ties.{IsNamedBy, first_row_id}
 use Rattle.tidy_rules.specs.Tidied.{HasTwo}
 use Rattle.cdcl_search.specs.Ties.{Ties, SearchStands, IsKept, IsHeld, NeedsNoLearned, AreLearned, RestOnUnits, IsFallingFrom}
@@ -253,6 +254,7 @@ module _ (formula : Problem) (c : SearchState) (e : State) (s : Search) (ok : Is
       apart = λ q k ql kl same. p.clauses.apart q k (was_live c.arena r q ql) (was_live c.arena r k kl)
           (ap id_in (sym (other_stays c.arena r q (is_other c.arena r q ql))) ∙ same ∙ ap id_in (other_stays c.arena r k (is_other c.arena r k kl)));
       original = original_then;
+      old = tidy_still c.arena b c.tidy_below p.clauses.old (let within = p.clauses.old.within in let long = length-set c.arena.clauses r None in omega (arith, within, long)) (λ q low h. other_stays c.arena r q (is_other c.arena r q h));
     };
     learned = learned_stays;
     trail = p.trail;

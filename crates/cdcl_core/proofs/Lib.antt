@@ -1,3 +1,4 @@
+pub mod TidyBefore
 pub mod GoingBack
 pub mod Entering
 pub mod Entered

@@ -195,6 +195,7 @@ module _ (formula : Problem) (c : SearchState) (plain : c.tidies ≡ false) (eng
           conflicts = ties.conflicts;
           none_learned = ties.none_learned;
           not_reduced = ties.not_reduced;
+          none_tidy = ties.none_tidy;
           no_conflict = ties.no_conflict;
           no_learned = ties.no_learned;
           no_reduction = ties.no_reduction;

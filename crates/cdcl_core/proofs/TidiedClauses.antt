@@ -30,6 +30,7 @@ use Rattle.clause_tidy.specs.Answers.{HasOwnId}
 use Rattle.clause_tidy.specs.Done.{IsCoveredBy, IsTidied}
 use Rattle.clause_tidy.specs.Shortened.{AreDifferent}
 use Rattle.clause_tidy.specs.Taking.{Lists}
+use Rattle.cdcl_core.proofs.TidyBefore.{all_are_tidy}
 use Rattle.cdcl_search.specs.Ties.{IsNamedBy, ClauseTies, IsHeld, IsKept, NeedsNoLearned, RestOnUnits}
 use Rattle.cdcl_search.proofs.TableLaws.{no_clause, put_other, drop_other}
 use Rattle.cdcl_core.proofs.LearnedLess.{no_reason}
@@ -112,7 +113,7 @@ spare_units ids es (step ∷ steps) rest others = (
 same_clause : (x y : List Literal) → Some x ≡ Some y → x ≡ y
 same_clause x y e = cc
 
-module _ {tidies : Bool} (formula : Problem) (spare next : ℕ) (tables : Tables) (a : ArenaState) (fixed : List Literal) (t : ClauseTies tidies formula tables.clauses next a fixed) (agreed : Agrees spare tables.clauses a) where
+module _ {tidies : Bool} {below : ℕ} (formula : Problem) (spare next : ℕ) (tables : Tables) (a : ArenaState) (fixed : List Literal) (t : ClauseTies tidies formula tables.clauses next a below fixed) (agreed : Agrees spare tables.clauses a) where
   -- the id of a clause without two different literals is not that of one of the arena
   not_stored : (n : ℕ) (x : List Literal) → get tables.clauses n ≡ Some x → ¬ HasTwo x → (r : ℕ) → IsLive a r → id_at a r ≢ n
   not_stored n x is one r live e =
@@ -215,5 +216,5 @@ module _ {tidies : Bool} (formula : Problem) (spare next : ℕ) (tables : Tables
       | inr (inr (r, live, original, inside)) ↦ needs_by clause r original inside (d.covers r live)
     ]
 
-    pub clauses_tidied : ClauseTies tidies formula last.clauses next b (units ++ fixed)
-    clauses_tidied = record { stored = kept_then; covered = covered_then; apart = agrees.apart; original = needs_then }
+    pub clauses_tidied : ClauseTies tidies formula last.clauses next b (length b.clauses) (units ++ fixed)
+    clauses_tidied = record { stored = kept_then; covered = covered_then; apart = agrees.apart; original = needs_then; old = all_are_tidy b units d.tidied }

@@ -144,7 +144,7 @@ module _ (formula : Problem) (c : SearchState) (e : State) (s : Search) (ok : Is
       after = steps_told s steps
 
       abbrev pub counted : SearchState
-      counted = record c { arena = b; learned = learned_count b }
+      counted = record c { arena = b; learned = learned_count b; tidy_below = length b.clauses }
 
       kept : IsSearchIn true formula e.parities after × IsAtStart after × (after.moment.tables ≡ last)
       kept = keeps last runs
@@ -171,9 +171,9 @@ module _ (formula : Problem) (c : SearchState) (e : State) (s : Search) (ok : Is
         };
       }
 
-      clauses_then : ClauseTies c.tidies formula after.moment.tables.clauses c.next b (units ++ held 0 after.trail)
-      clauses_then = subst (λ es. ClauseTies c.tidies formula after.moment.tables.clauses c.next b (units ++ held 0 es)) (sym (told_trail s steps))
-          (subst (λ (x : Tables). ClauseTies c.tidies formula x.clauses c.next b (units ++ held 0 s.trail)) (sym kept.2)
+      clauses_then : ClauseTies c.tidies formula after.moment.tables.clauses c.next b (length b.clauses) (units ++ held 0 after.trail)
+      clauses_then = subst (λ es. ClauseTies c.tidies formula after.moment.tables.clauses c.next b (length b.clauses) (units ++ held 0 es)) (sym (told_trail s steps))
+          (subst (λ (x : Tables). ClauseTies c.tidies formula x.clauses c.next b (length b.clauses) (units ++ held 0 s.trail)) (sym kept.2)
           (clauses_tidied formula spare c.next s.moment.tables c.arena (held 0 s.trail) t.clauses agreed b units ids steps d own))
 
       waiting_then : (l : Literal) (n : ℕ) → Lists units ids l n → IsWaitingUnit formula after.moment.tables.clauses c.next l n

@@ -238,12 +238,12 @@ module _ {L : Type 0} (m : sink.Ghosts L LogEvent) (old new : SearchLog L) (form
         → IfDone (Ok o) (λ units ids. (q : ℕ) → IsLive b q → WasOrCame formula a b q)
         → IfDone (Ok o) (λ units ids. IsTold m highest_id a old.sink.now (AgreesAgain formula highest_id a b units ids) new.sink.now)
         → IfEnded (Ok o) (λ lits. IsTold m highest_id a old.sink.now (EndsFrom formula highest_id a lits) new.sink.now)
-        → TidiesSearch new.formula.now (record c { arena = b }) e (m.items new.sink.now) o
+        → TidiesSearch new.formula.now (record c { arena = b; tidy_below = length b.clauses }) e (m.items new.sink.now) o
     ok_tidies (Done units ids) tidied each covers derived parts learned wide was (steps, told, own, again) none =
         let d : IsTidied formula highest_id a b units ids steps = record { tidied = tidied; each = each; covers = covers; derived = derived; parts = parts; learned = learned; wide = wide; was = was; runs = again } in
-        subst (λ f. TidiesSearch f (record c { arena = b }) e (m.items new.sink.now) (Done units ids)) (sym formula_is)
-        (subst (λ o. TidiesSearch formula (record c { arena = b }) e o (Done units ids)) (sym told)
+        subst (λ f. TidiesSearch f (record c { arena = b; tidy_below = length b.clauses }) e (m.items new.sink.now) (Done units ids)) (sym formula_is)
+        (subst (λ o. TidiesSearch formula (record c { arena = b; tidy_below = length b.clauses }) e o (Done units ids)) (sym told)
         (stands_beside formula c e s ok t at highest_id agreed steps own b units ids d proper (m.items old.sink.now) stands.2, each, can_be_watched formula c e s ok t at highest_id agreed steps own b units ids d proper, tidied))
     ok_tidies (Ended lits) tidied each covers derived parts learned wide was none (steps, told, own, ends) =
-        subst (λ f. TidiesSearch f (record c { arena = b }) e (m.items new.sink.now) (Ended lits)) (sym formula_is)
-        (subst (λ o. TidiesSearch formula (record c { arena = b }) e o (Ended lits)) (sym told) (refutes steps own lits (ends.1 s.moment.tables agreed)))
+        subst (λ f. TidiesSearch f (record c { arena = b; tidy_below = length b.clauses }) e (m.items new.sink.now) (Ended lits)) (sym formula_is)
+        (subst (λ o. TidiesSearch formula (record c { arena = b; tidy_below = length b.clauses }) e o (Ended lits)) (sym told) (refutes steps own lits (ends.1 s.moment.tables agreed)))

@@ -40,7 +40,8 @@ use Rattle.search_steps.proofs.IdLaws.{force_ranged, next_is_free}
 use Rattle.conflict_learn.proofs.ChainOfResolutions.{by_cases}
 use Rattle.search_steps.proofs.Sets.{not_both}
 use Rattle.cdcl_search.specs.declared.state.SearchState.{SearchState}
-use Rattle.cdcl_search.specs.Ties.{SearchStands, LogTies, ClauseTies, IsHeld, NeedsNoLearned, AreUnits, RestOnUnits, IsFallingFrom, IsFed, IsNamedBy, first_row_id}
+use Rattle.cdcl_core.proofs.TidyBefore.{none_before}
+use Rattle.cdcl_search.specs.Ties.{AreTidyBefore, SearchStands, LogTies, ClauseTies, IsHeld, NeedsNoLearned, AreUnits, RestOnUnits, IsFallingFrom, IsFed, IsNamedBy, first_row_id}
 use Rattle.cdcl_search.proofs.Growing.{held_grows, watched_grows, stand_grows}
 use Rattle.cdcl_search.proofs.UnitHints.{unit_hints_are_right}
 use Rattle.cdcl_search.proofs.UnitTies.{on_last}
@@ -214,6 +215,7 @@ module _ (formula : Problem) (engines : List (List Literal)) (c : SearchState) (
       conflicts = ties.conflicts;
       none_learned = ties.none_learned;
       not_reduced = ties.not_reduced;
+      none_tidy = ties.none_tidy;
       no_conflict = ties.no_conflict;
       no_learned = ties.no_learned;
       no_reduction = ties.no_reduction;
@@ -307,6 +309,7 @@ module _ (formula : Problem) (engines : List (List Literal)) (c : SearchState) (
           conflicts = ties.conflicts;
           none_learned = ties.none_learned;
           not_reduced = ties.not_reduced;
+          none_tidy = ties.none_tidy;
           no_conflict = ties.no_conflict;
           no_learned = ties.no_learned;
           no_reduction = ties.no_reduction;
@@ -412,6 +415,7 @@ module _ (formula : Problem) (few : length formula.constraints ≤ 4294967295) (
       conflicts = f.conflicts;
       none_learned = f.none_learned;
       not_reduced = f.not_reduced;
+      none_tidy = f.none_tidy;
       no_conflict = b.1.no_conflict;
       no_learned = b.1.no_learned;
       no_reduction = ap (λ r. if r then b.0.moment.reductions + 1 else b.0.moment.reductions) b.1.not_reducing ∙ b.1.no_reduction;
@@ -475,7 +479,7 @@ module _ (formula : Problem) (engines : List (List Literal)) (c : SearchState) (
         | inr waits ↦ absurd (none_waits (i + 1) waits)
       ])
 
-  clauses_then : ClauseTies c.tidies formula st.0.moment.tables.clauses c.next c.arena (held 0 st.0.trail)
+  clauses_then : ClauseTies c.tidies formula st.0.moment.tables.clauses c.next c.arena c.tidy_below (held 0 st.0.trail)
   clauses_then = record {
     stored = λ r live.
         let s = st.3.stored r live in
@@ -493,6 +497,7 @@ module _ (formula : Problem) (engines : List (List Literal)) (c : SearchState) (
         ]);
     apart = st.3.apart;
     original = original_then;
+    old = subst (AreTidyBefore c.arena) (sym st.3.none_tidy) (none_before c.arena);
   }
 
   all_low : (es : List Entry) (entries : List TrailEntry) → IsTied es entries → ((i : ℕ) → i < length entries → (entry_at entries i).level ≤ 0) → AllByRecursion (λ (e : Entry). e.level ≡ 0) es

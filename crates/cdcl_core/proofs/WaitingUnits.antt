@@ -40,13 +40,14 @@ use Rattle.cdcl_core.proofs.EndingLaws.{no_newer}
 use Rattle.cdcl_core.proofs.WaitingLaws.{one_forces, one_more_unit}
 
 -- ---- what level 0 makes true
-clauses_fixed : (tidies : Bool) (formula : Problem) (table : Table) (next : ℕ) (arena : ArenaState) (fixed more : List Literal) → ((l : Literal) → has_literal fixed l ≡ true → has_literal more l ≡ true)
-    → ClauseTies tidies formula table next arena fixed → ClauseTies tidies formula table next arena more
+clauses_fixed : {below : ℕ} (tidies : Bool) (formula : Problem) (table : Table) (next : ℕ) (arena : ArenaState) (fixed more : List Literal) → ((l : Literal) → has_literal fixed l ≡ true → has_literal more l ≡ true)
+    → ClauseTies tidies formula table next arena below fixed → ClauseTies tidies formula table next arena below more
 clauses_fixed tidies formula table next arena fixed more f t = record {
   stored = t.stored;
   covered = λ n clause low is. held_by n clause (t.covered n clause low is);
   apart = t.apart;
   original = λ clause is. needs_by clause (t.original clause is);
+  old = t.old;
 }
   where
     true_by : (clause : List Literal) → HasTrue fixed clause → HasTrue more clause

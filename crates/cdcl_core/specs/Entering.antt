@@ -33,6 +33,7 @@ pub record IsPut (old new : SearchState) (l : Literal) (reason : Reason) : Type 
   pub learned : new.learned ≡ old.learned
   pub reductions : new.reductions ≡ old.reductions
   pub tidies : new.tidies ≡ old.tidies
+  pub tidy_below : new.tidy_below ≡ old.tidy_below
 
 -- the id is that of the literal's unit clause
 pub record EntersUnit (old new : SearchState) (l : Literal) (id : ℕ) : Type 0 where
@@ -61,3 +62,4 @@ pub record HasCounts (now was : SearchState) : Type 0 where
   pub learned : now.learned ≡ was.learned
   pub reductions : now.reductions ≡ was.reductions
   pub tidies : now.tidies ≡ was.tidies
+  pub tidy_below : now.tidy_below ≡ was.tidy_below

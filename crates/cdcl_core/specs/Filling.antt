@@ -30,6 +30,7 @@ pub record IsEmpty (variables : ℕ) (c : SearchState) : Type 0 where
   pub none_learned : c.learned ≡ 0
   pub not_reduced : c.reductions ≡ 0
   pub never_tidies : c.tidies ≡ false
+  pub none_tidy : c.tidy_below ≡ 0
 
 -- the k-th clause of the formula, from 1
 abbrev pub clause_number : Problem → ℕ → List Literal
@@ -70,6 +71,7 @@ pub record IsFilledUpTo (formula : Problem) (n : ℕ) (c : SearchState) (units :
   pub none_learned : c.learned ≡ 0
   pub not_reduced : c.reductions ≡ 0
   pub never_tidies : c.tidies ≡ false
+  pub none_tidy : c.tidy_below ≡ 0
   pub stored : (r : ℕ) → IsLive c.arena r → IsTakenAt formula n c.arena r
   pub plain : (r : ℕ) → IsLive c.arena r → IsFalse (is_tautology (literals_at c.arena r))
   pub apart : (r q : ℕ) → IsLive c.arena r → IsLive c.arena q → id_at c.arena r ≡ id_at c.arena q → r ≡ q
@@ -109,3 +111,4 @@ pub record Attaches (old new : SearchState) (lits : List Literal) (number : ℕ)
   pub learned : new.learned ≡ old.learned
   pub reductions : new.reductions ≡ old.reductions
   pub tidies : new.tidies ≡ old.tidies
+  pub tidy_below : new.tidy_below ≡ old.tidy_below

@@ -42,7 +42,7 @@ pub record IsWaitingUnit (formula : Problem) (table : Table) (next : ℕ) (l : L
 -- What the code holds at level 0 is what the search of the calculus holds, once these units are true as well.
 pub record TiesBeside (formula : Problem) (c : SearchState) (e : State) (units : List Literal) (ids : List ℕ) (s : Search) : Type 0 where
   pub log : LogTies c.tidies formula e.parities c.next (first_row_id c.next) [] s
-  pub clauses : ClauseTies c.tidies formula s.moment.tables.clauses c.next c.arena (units ++ held 0 s.trail)
+  pub clauses : ClauseTies c.tidies formula s.moment.tables.clauses c.next c.arena c.tidy_below (units ++ held 0 s.trail)
   pub waiting : (l : Literal) (n : ℕ) → Lists units ids l n → IsWaitingUnit formula s.moment.tables.clauses c.next l n
   pub learned : AreLearned c.arena s.moment.learned
   pub trail : TrailTies formula s.trail c.trail c.order c.phases.items

@@ -57,6 +57,7 @@ pub record TiesBut (formula : Problem) (engines : List (List Literal)) (c : Sear
   pub conflicts : c.conflicts ≡ 0
   pub none_learned : c.learned ≡ 0
   pub not_reduced : c.reductions ≡ 0
+  pub none_tidy : c.tidy_below ≡ 0
   pub no_conflict : s.conflicts ≡ 0
   pub no_learned : s.moment.learned ≡ []
   pub no_reduction : stretches s.moment ≡ 0

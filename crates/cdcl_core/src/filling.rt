@@ -54,6 +54,7 @@ fn empty_state(alloc: Global, vars: u32) -> Result<SearchState, AllocError>
         learned: 0,
         reductions: 0,
         tidies: false,
+        tidy_below: 0,
     })
 }
 

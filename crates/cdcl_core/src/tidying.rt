@@ -21,7 +21,7 @@ use cdcl_search::SearchState;
 use cdcl_search::logs::SearchLog;
 use cdcl_search::telling::fault_of;
 use clause_arena::Arena;
-use clause_tidy::{TidyOf, tidy};
+use clause_tidy::{TidyOf, tidy_from};
 use conflict_learn::CoreFault;
 use cx_base::{ClauseRef, IdList, Lit, LitList, LogEvent};
 use cx_trail::{Reason, Truth};
@@ -54,11 +54,22 @@ fn tidy_arena<P: ParityEngine, L: Sink<Item = LogEvent>>(
     requires restart { IsAtRestart state.old }
     requires going { HasNotFailed L.Sink log.old }
     ensures tidies { IfOk result (TidiesSearch log.new.formula.now state.new (P.state engine.now) (told_in L.Sink log.new)) }
-    ensures only { state.new ≡ record state.old { arena = state.new.arena } }
+    ensures only { state.new ≡ record state.old { arena = state.new.arena; tidy_below = state.new.tidy_below } }
     ensures log { GoesOn L.Sink log.old (fault_in result) log.new }
 {
-    match tidy(log.alloc, &mut state.arena, log.formula, SPARE, log.sink) {
-        Ok(outcome) => Ok(outcome),
+    let from = state.tidy_below as usize;
+    match tidy_from(
+        log.alloc,
+        &mut state.arena,
+        log.formula,
+        SPARE,
+        from,
+        log.sink,
+    ) {
+        Ok(outcome) => {
+            state.tidy_below = state.arena.len() as u32;
+            Ok(outcome)
+        }
         Err(fault) => Err(fault_of(fault)),
     }
 }

@@ -131,7 +131,7 @@ module _ (formula : Problem) (c : SearchState) (e : State) (first : ℕ) (rows :
         new_sums = deleted_new_sums s ids ∙ t.log.served.new_sums;
       };
     };
-    clauses = subst (λ es. ClauseTies c.tidies formula after.moment.tables.clauses c.next c.arena (held 0 es)) (sym (deleted_trail s ids)) (clauses_stay formula s.moment.tables.clauses after.moment.tables.clauses c.next c.arena (held 0 s.trail) answers_below_next t.clauses);
+    clauses = subst (λ es. ClauseTies c.tidies formula after.moment.tables.clauses c.next c.arena c.tidy_below (held 0 es)) (sym (deleted_trail s ids)) (clauses_stay formula s.moment.tables.clauses after.moment.tables.clauses c.next c.arena (held 0 s.trail) answers_below_next t.clauses);
     learned = subst (AreLearned c.arena) (sym (temporary_learned s ids temporary)) t.learned;
     trail = subst (λ es. TrailTies formula es c.trail c.order c.phases.items) (sym (deleted_trail s ids)) t.trail;
     units = subst (λ es. AreUnits after.moment.tables.clauses c.next c.trail es c.units.items) (sym (deleted_trail s ids)) (units_stay s.moment.tables.clauses after.moment.tables.clauses c.next c.trail s.trail c.units.items answers_below_next t.units);

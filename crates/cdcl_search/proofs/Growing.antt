@@ -40,12 +40,13 @@ needs_none_still arena es y clause (inl both) = inl both
 needs_none_still arena es y clause (inr (inl t)) = inr (inl (record { l = t.l; has_it = t.has_it; is_held = put_held 0 y es t.l t.is_held }))
 needs_none_still arena es y clause (inr (inr stored)) = inr (inr stored)
 
-pub clauses_grow : {tidies : Bool} (formula : Problem) (table : Table) (next : ℕ) (arena : ArenaState) (es : List Entry) (y : Entry) → ClauseTies tidies formula table next arena (held 0 es) → ClauseTies tidies formula table next arena (held 0 (y ∷ es))
+pub clauses_grow : {tidies : Bool} {below : ℕ} (formula : Problem) (table : Table) (next : ℕ) (arena : ArenaState) (es : List Entry) (y : Entry) → ClauseTies tidies formula table next arena below (held 0 es) → ClauseTies tidies formula table next arena below (held 0 (y ∷ es))
 clauses_grow {tidies} formula table next arena es y a = record {
   stored = a.stored;
   covered = λ n clause low live. held_grows tidies arena n es y clause (a.covered n clause low live);
   apart = a.apart;
   original = λ clause is. needs_none_still arena es y clause (a.original clause is);
+  old = a.old;
 }
 
 -- ---- the engine

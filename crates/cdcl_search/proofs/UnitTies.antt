@@ -271,12 +271,13 @@ module _ (formula : Problem) (c : SearchState) (e : State) (rows : List (List Li
         one_of : Some x ≡ Some (l ∷ []) → x ≡ l ∷ []
         one_of q = cc
 
-    clauses_then : ClauseTies c.tidies formula table next c.arena (held 0 after.trail)
+    clauses_then : ClauseTies c.tidies formula table next c.arena c.tidy_below (held 0 after.trail)
     clauses_then = record {
       stored = λ r is_live. let st = t.clauses.stored r is_live in let low = st.low in record { wide = st.wide; named = named_still _ _ st.named; low = omega (arith, low, next_is); late = st.late };
       covered = covered_then;
       apart = t.clauses.apart;
       original = λ x is. subst (λ ls. NeedsNoLearned c.arena ls x) (sym (still 0)) (t.clauses.original x is);
+      old = t.clauses.old;
     }
 
     longer : length units.items ≡ length c.units.items + 1

@@ -13,6 +13,7 @@ use Rattle.cx_trail.specs.declared.entry.Entry.{Entry as TrailEntry}
 use Rattle.cx_trail.specs.declared.entry.Reason.{Reason}
 use Rattle.cx_trail.specs.declared.entry.Reason.TheVariants as reason
 use Rattle.cx_trail.specs.Sequence.{TrailState, entry_at, IsTrueIn, IsAssignedIn}
+use Rattle.tidy_rules.specs.Below.{TidiedBelow}
 use Rattle.tidy_rules.specs.Tidied.{HasTwo}
 use Rattle.clause_arena.specs.Clauses.{IsLive, literals_at, id_at, ArenaState, learned_at}
 use Rattle.watch_lists.specs.Truths.{AreOthersFalse}
@@ -85,12 +86,18 @@ IsHeld tidies arena fixed n clause = ((r : ℕ) × IsLive arena r × (id_at aren
 abbrev pub NeedsNoLearned : ArenaState → List Literal → List Literal → Type 0
 NeedsNoLearned arena fixed clause = IsTrue (is_tautology clause) ⊎ HasTrue fixed clause ⊎ ((r : ℕ) × IsLive arena r × IsFalse (learned_at arena r) × IsTrue (is_inside (literals_at arena r) clause))
 
--- the arena holds the live clauses that stay, each under an id of its own; no clause of the formula needs a learned one; level 0 makes the fixed literals true
-pub record ClauseTies (tidies : Bool) (formula : Problem) (table : Table) (next : ℕ) (arena : ArenaState) (fixed : List Literal) : Type 0 where
+-- the arena's clauses before this reference are tidy, and it was handed out or is the next one
+pub record AreTidyBefore (arena : ArenaState) (below : ℕ) : Type 0 where
+  pub tidy : TidiedBelow arena below
+  pub within : below ≤ length arena.clauses
+
+-- the arena holds the live clauses that stay, each under an id of its own; those before a reference are tidy; no clause of the formula needs a learned one; level 0 makes the fixed literals true
+pub record ClauseTies (tidies : Bool) (formula : Problem) (table : Table) (next : ℕ) (arena : ArenaState) (below : ℕ) (fixed : List Literal) : Type 0 where
   pub stored : (r : ℕ) → IsLive arena r → IsKept formula table next arena r
   pub covered : (n : ℕ) (clause : List Literal) → n < next → get table n ≡ Some clause → IsHeld tidies arena fixed n clause
   pub apart : (r q : ℕ) → IsLive arena r → IsLive arena q → id_at arena r ≡ id_at arena q → r ≡ q
   pub original : (clause : List Literal) → IsClauseOf formula clause → NeedsNoLearned arena fixed clause
+  pub old : AreTidyBefore arena below
 
 -- each clause of the arena that was learned has one of these ids
 abbrev pub AreLearned : ArenaState → List ℕ → Type 0
@@ -207,7 +214,7 @@ pub record HasFewIds (formula : Problem) (next conflicts units : ℕ) : Type 0 w
 -- what the code holds, apart from the watches, is what the search of the calculus holds; of rows these clauses were told since the last mark, under the ids from this one on
 pub record TiesFrom (formula : Problem) (c : SearchState) (e : State) (first : ℕ) (rows : List (List Literal)) (s : Search) : Type 0 where
   pub log : LogTies c.tidies formula e.parities c.next first rows s
-  pub clauses : ClauseTies c.tidies formula s.moment.tables.clauses c.next c.arena (held 0 s.trail)
+  pub clauses : ClauseTies c.tidies formula s.moment.tables.clauses c.next c.arena c.tidy_below (held 0 s.trail)
   pub learned : AreLearned c.arena s.moment.learned
   pub trail : TrailTies formula s.trail c.trail c.order c.phases.items
   pub units : AreUnits s.moment.tables.clauses c.next c.trail s.trail c.units.items

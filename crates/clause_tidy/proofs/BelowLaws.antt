@@ -5,7 +5,7 @@ use Rattle.cx_base.specs.Literals.{Literal}
 use Rattle.cx_semantics.specs.Chain.{is_inside}
 use Rattle.cx_semantics.specs.Fresh.{is_tautology}
 use Rattle.clause_arena.specs.Clauses.{ArenaState, IsLive, literals_at, literals_in}
-use Rattle.clause_tidy.specs.Below.{TidiedBelow}
+use Rattle.tidy_rules.specs.Below.{TidiedBelow}
 use Rattle.tidy_rules.specs.Relations.{strengthens}
 use Rattle.clause_tidy.specs.Pairs.{Bears}
 use Rattle.clause_tidy.specs.Tautologies.{IsLeft, IsFreeAt}

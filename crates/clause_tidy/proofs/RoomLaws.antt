@@ -12,7 +12,7 @@ use Rattle.cx_semantics.proofs.Closure.{has_by_inside}
 use Rattle.cx_semantics.proofs.Members.{has_by_index}
 use Rattle.clause_arena.specs.Clauses.{ArenaState, IsLive, literals_at}
 use Rattle.clause_arena.proofs.PackingLaws.{live_within}
-use Rattle.clause_tidy.specs.Below.{TidiedBelow}
+use Rattle.tidy_rules.specs.Below.{TidiedBelow}
 use Rattle.tidy_rules.specs.Relations.{bears_on}
 use Rattle.clause_tidy.specs.declared.look.Look.{Look}
 use Rattle.clause_tidy.specs.declared.room.Queued.{Queued}

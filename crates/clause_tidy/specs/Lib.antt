@@ -7,7 +7,6 @@ pub mod Telling
 pub mod Answers
 pub mod Weights
 pub mod Pairs
-pub mod Below
 pub mod Tautologies
 pub mod Taking
 pub mod Done

@@ -7,7 +7,7 @@ ghost use Rattle.clause_tidy.specs.Indexes.{IsIndexed, AreKnown};
 ghost use Rattle.clause_tidy.specs.Marks.{AreClear};
 ghost use Rattle.clause_tidy.specs.Pairs.{IsPair, NoneBears};
 ghost use Rattle.clause_tidy.specs.Rooms.{HasMore, IsWaiting, IsRoomFor, IsRoomBefore, KeepsLook, looks_to_come};
-ghost use Rattle.clause_tidy.specs.Below.{TidiedBelow};
+ghost use Rattle.tidy_rules.specs.Below.{TidiedBelow};
 
 use crate::index::Index;
 use crate::look::Look;

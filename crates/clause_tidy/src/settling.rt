@@ -1,6 +1,6 @@
 //! The clauses of an arena are mended until none bears on another.
 ghost use Rattle.std.specs.Prelude.{◌<◌, ◌≤◌, length, IfOk, IsNone};
-ghost use Rattle.clause_tidy.specs.Below.{TidiedBelow};
+ghost use Rattle.tidy_rules.specs.Below.{TidiedBelow};
 ghost use Rattle.clause_tidy.specs.Answers.{MayTidy, TidiesOn, MendsTo, HasNoTautology};
 ghost use Rattle.clause_tidy.specs.Pairs.{IsPair, NoneBears};
 ghost use Rattle.clause_tidy.specs.Rooms.{IsRoomFor};

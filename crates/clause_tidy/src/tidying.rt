@@ -7,7 +7,7 @@ ghost use Rattle.tidy_rules.specs.declared.part.TidyPart.{TidyPart};
 ghost use Rattle.tidy_rules.specs.Parts.{IsPart, Tidied, lits_in};
 ghost use Rattle.clause_tidy.specs.Agreeing.{IsStepId, AreProper};
 ghost use Rattle.clause_tidy.specs.Answers.{EndsFrom, HasNoTautology, IsRightFrom, IsTold, IsTornAfter, MayTidy, MendsTo, TidiesOn};
-ghost use Rattle.clause_tidy.specs.Below.{TidiedBelow};
+ghost use Rattle.tidy_rules.specs.Below.{TidiedBelow};
 ghost use Rattle.clause_tidy.specs.Derived.{IsDerived};
 ghost use Rattle.clause_tidy.specs.Done.{AgreesAgain, ArePartsOf, IfDone, IfEnded, IsCoveredBy, TidiesTo, TakesUnits};
 ghost use Rattle.clause_tidy.specs.Pairs.{NoneBears};

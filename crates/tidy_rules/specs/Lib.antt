@@ -1,5 +1,6 @@
 pub mod Relations
 pub mod Tidied
+pub mod Below
 pub mod Parts
 pub mod Hints
 pub mod Runs

@@ -20,4 +20,5 @@ returns c =
       none_learned = refl;
       not_reduced = refl;
       never_tidies = refl;
+      none_tidy = refl;
     }

@@ -20,7 +20,7 @@ returns c =
     let is : c.imply.new.self ≡ pushed t t.level (literal_at c.args.lits.now 0) (reason.Clause (length c.args.state.now.arena.clauses)) =
     c.imply.ensures.pushed ∙ ap (λ l. pushed t t.level l (reason.Clause c.in_ok-reference.reference)) (c.index-lits-0.is ∙ first_any c.args.lits.now c.index-lits-0.result no_literal (let long = c.requires.watched.long in omega (arith, long))) ∙ ap (λ r. pushed t t.level (literal_at c.args.lits.now 0) (reason.Clause r)) c.in_ok-reference.ensures.ok in
     record {
-      put = record { trail = is; sound = c.imply.ensures.sound; order = refl; phases = refl; given = refl; next = refl; conflicts = refl; learned = refl; reductions = refl; tidies = refl };
+      put = record { trail = is; sound = c.imply.ensures.sound; order = refl; phases = refl; given = refl; next = refl; conflicts = refl; learned = refl; reductions = refl; tidies = refl; tidy_below = refl };
       added = c.in_ok-reference.ensures.added;
       attached = subst (IsAttached c.attach.new.self.attached) c.in_ok-reference.ensures.ok c.in_ok-attach.ensures.attached;
       others = λ r apart. c.attach.ensures.others r (λ same. apart (same ∙ c.in_ok-reference.ensures.ok));

@@ -27,6 +27,7 @@ returns g c =
       learned = refl;
       reductions = refl;
       tidies = refl;
+      tidy_below = refl;
       engine = c.back_to-4.ensures;
     } in
     record {
@@ -35,7 +36,7 @@ returns g c =
         watched = watched_then c.args.formula.now c.args.level c.args.state.now now old new c.requires.stands.0 c.requires.stands.1 c.requires.stands.2 c.requires.stands.3 goes c.requires.stands.4;
         back = c.back_to-2.ensures.back;
         units = units_are_all c.args.formula.now c.args.level c.args.state.now now old new c.requires.stands.0 c.requires.stands.1 c.requires.stands.2 c.requires.stands.3 goes;
-        counts = record { next = refl; conflicts = refl; learned = refl; reductions = refl; tidies = refl };
+        counts = record { next = refl; conflicts = refl; learned = refl; reductions = refl; tidies = refl; tidy_below = refl };
         parities = search rules;
         unbroken = search rules;
       };

@@ -1,7 +1,7 @@
 use Rattle.std.proofs.Common.{◌*◌, ◌∙◌, sym, ap, subst, ℕ, length, arith}
 use Rattle.clause_tidy.specs.declared.look.Look.{Look}
 use Rattle.clause_tidy.specs.declared.room.TidyRoom.{TidyRoom}
-use Rattle.clause_tidy.specs.Below.{TidiedBelow}
+use Rattle.tidy_rules.specs.Below.{TidiedBelow}
 use Rattle.clause_tidy.specs.Marks.{AreClear}
 use Rattle.clause_tidy.proofs.RoomLaws.{all_due}
 use Rattle.clause_tidy.proofs.room.TidyRoom.make.Goals as goal
