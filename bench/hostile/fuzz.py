@@ -5,7 +5,7 @@ usage: bench/hostile/fuzz.py [COUNT [SEED [WORKERS]]]     (1,000 formulas, seed 
 
 A formula has up to 14 variables, clauses and parities with repeated and opposite literals now and then, and empty ones, and often
 assumption constraints. `solve` must say 10 exactly where some values meet it, 20 exactly where none do, and UNKNOWN only after as many
-marks of conflicts in the log as its budget has. The literals of `c failed` must be assumed ones that no values meet together with the
+marks of conflicts in the log as its budget has. Half of the searches tidy (`--inprocess`), and their tidy lines are judged. The literals of `c failed` must be assumed ones that no values meet together with the
 clauses and the parities. Values are judged by `model` and by the truth table, and again with one of them turned. A log of a refutation is
 elaborated and its proof checked; the proof is then held against another formula and with one number changed: `check` may verify it
 only where no values meet the formula. What `trim` leaves of the proof must be verified, and no values may meet its core. Of what `blast`
@@ -18,6 +18,8 @@ import subprocess
 import sys
 import tempfile
 from concurrent.futures import ProcessPoolExecutor
+
+import tidy_lines
 
 PROGRAM = os.path.join(os.path.dirname(os.path.abspath(__file__)), "..", "..", "crates", "cxsat", "out", "cxsat")
 
@@ -256,7 +258,11 @@ def one(number, folder, earlier):
     with open(f"{folder}/f", "w") as file:
         file.write(text(count, whole))
     budget = rng.choice((1, 2, 5, 1000000, 1000000, 1000000))
-    status, out, err = run("solve", f"{folder}/f", "--proof", f"{folder}/log", "--conflicts", str(budget))
+    words = ["solve", f"{folder}/f", "--proof", f"{folder}/log", "--conflicts", str(budget)]
+    tidies = rng.random() < 0.5
+    if tidies:
+        words.insert(rng.choice((1, 2, 4, 6)), "--inprocess")
+    status, out, err = run(*words)
     log = open(f"{folder}/log").read()
     marks = sum(line.startswith("c conflict ") for line in log.splitlines())
     if status == 10:
@@ -273,6 +279,9 @@ def one(number, folder, earlier):
         want((status, out) == (0, f"c conflicts {budget}\ns UNKNOWN\n"), f"solve: {status} {out!r} {err!r}")
         want(marks == budget, f"UNKNOWN after {marks} marks of {budget}")
     want(marks <= budget, f"{marks} conflicts of {budget}")
+    found = list(tidy_lines.faults(log.splitlines())) if tidies else []
+    want(not found, f"tidy lines: {found}")
+    want(tidies or "c tidy" not in log, "tidy lines that were not asked for")
     judge_foreign_proof(rng, folder, left, earlier)
     judge_blasted(folder, count, left)
     judge_affine(folder, count, whole)
