@@ -10,7 +10,7 @@ source "$(dirname "$0")/common.sh"
 need minisat cryptominisat5 cadical valgrind gcc /usr/bin/time
 build
 results=${1:-$here/RESULTS.md} lanes=${2:-1}
-scripts=(families solve parities trim foreign hostile memory limits propagate elab check recover affine blast slot reader rows)
+scripts=(families inprocess solve parities trim foreign hostile memory limits propagate elab check recover affine blast slot reader rows)
 
 # The version of a Debian package.
 version() {
@@ -53,7 +53,7 @@ The last column says how cxsat is beside other solvers; from 0.9 to 1.1 is level
 - beside it: $(version minisat), $(version cadical), $(version cryptominisat), $(gcc --version | head -n 1) with -O2
 
 TEXT
-    for script in reader check elab trim slot foreign solve families parities affine blast recover propagate memory limits rows; do
+    for script in reader check elab trim slot foreign solve families inprocess parities affine blast recover propagate memory limits rows; do
         cat "$work/$script.rows"
     done | without_short_runs | "$here/table.py"
     echo
