@@ -31,6 +31,14 @@ answered() {
     grep -qx "$1" "$work/answer" || { echo "$(basename "$0"): wanted '$1', got:" >&2; head -n 5 "$work/answer" >&2; exit 1; }
 }
 
+# A formula of a family into $work/formula: by which script of make/ (awk: instance.awk, python: families.py), its kind, size and seed.
+draw() {
+    case $1 in
+        awk) awk -v kind="$2" -v size="$3" -v seed="$4" -f "$here/make/instance.awk" ;;
+        python) "$here/make/families.py" "$2" "$3" "$4" ;;
+    esac > "$work/formula"
+}
+
 # The first number over the second.
 ratio() {
     awk -v a="$1" -v b="$2" 'BEGIN { if (b > 0) printf "%.2f", a / b; else printf "-" }'

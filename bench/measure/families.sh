@@ -49,10 +49,7 @@ measure() {
     [ "$chosen" = '  ' ] || [[ $chosen = *" $kind "* ]] || return 0
     : > "$work/taken"
     for ((seed = 1; seed <= seeds; seed++)); do
-        case $maker in
-            awk) awk -v kind="$kind" -v size="$size" -v seed="$seed" -f "$here/make/instance.awk" > "$work/formula" ;;
-            python) "$here/make/families.py" "$kind" "$size" "$seed" > "$work/formula" ;;
-        esac
+        draw "$maker" "$kind" "$size" "$seed"
         solve_by_all "$words $size, seed $seed" "$wanted"
     done
     for solver in "${solvers[@]:1}"; do

@@ -20,10 +20,7 @@ measure() {
     local words=$1 maker=$2 kind=$3 size=$4 seed plain tidied
     : > "$work/taken"
     for ((seed = 1; seed <= seeds; seed++)); do
-        case $maker in
-            awk) awk -v kind="$kind" -v size="$size" -v seed="$seed" -f "$here/make/instance.awk" > "$work/formula" ;;
-            python) "$here/make/families.py" "$kind" "$size" "$seed" > "$work/formula" ;;
-        esac
+        draw "$maker" "$kind" "$size" "$seed"
         plain=$(search)
         tidied=$(search --inprocess)
         echo "$plain $tidied" >> "$work/taken"
