@@ -119,13 +119,28 @@ bring() {
     done
 }
 
-# Lays a program of `programs/` out over copies of crates and goes into its folder: its name, those crates that it names itself, all
-# crates that it stands on.
+# These crates and all below them, lowest first.
+below() {
+    awk -v wanted="$*" '
+        BEGIN { count = split(wanted, names, " "); for (k = 1; k <= count; k++) need[names[k]] }
+        /^[a-z0-9_]+:/ { line[++lines] = $0 }
+        END {
+            for (k = lines; k; k--) {
+                split(line[k], part, ":")
+                count = part[1] in need ? split(part[2], names, " ") : 0
+                for (d = 1; d <= count; d++) need[names[d]]
+            }
+            for (k = 1; k <= lines; k++) { split(line[k], part, ":"); if (part[1] in need) print part[1] }
+        }' "$here/../crates.txt"
+}
+
+# Lays a program of `programs/` out over copies of crates and goes into its folder: its name, and the crates that it names itself.
 stand_on() {
-    local name=$1 named=$2
-    shift 2
-    bring "$@"
-    echo "$name: $named" >> "$work/crates.txt"
+    local name=$1 crates
+    shift
+    mapfile -t crates < <(below "$@")
+    bring "${crates[@]}"
+    echo "$name: $*" >> "$work/crates.txt"
     mkdir -p "$work/crates/$name"
     lay_out "$name" "$work/crates/$name"
     cd "$work/crates/$name"

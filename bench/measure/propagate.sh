@@ -26,8 +26,7 @@ fi
 formula="$work/formula.cnf"
 awk -v seed="$seed" -v clauses="$clauses" -v vars="$vars" -f "$here/make/clauses.awk" > "$formula"
 # A run of one round proves and builds the program; it is timed afterwards, alone.
-stand_on propagate_times 'cx_base cnfx_reader cx_trail clause_arena watch_lists' \
-    cx_base cx_texts cx_desk cnfx_reader cx_trail clause_arena watch_lists
+stand_on propagate_times cx_base cnfx_reader cx_trail clause_arena watch_lists
 first_run 1 "$formula"
 # minisat's status is that of its answer, also where the time ends.
 minisat -no-pre -cpu-lim="$limit" "$formula" > "$work/minisat.log" 2>&1 || true

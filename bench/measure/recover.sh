@@ -6,8 +6,7 @@
 set -euo pipefail
 source "$(dirname "$0")/../common.sh"
 rounds=${1:-5}
-stand_on recover_times 'cx_base cnfx_reader xor_recover' \
-    cx_base cx_texts cx_desk cx_semantics cnfx_reader gf2_rows parity_engine gf2_matrix xor_recover
+stand_on recover_times cx_base cnfx_reader xor_recover
 first_run
 
 # The least microseconds of reading and of recovery, and the number of parities, of so many runs on a formula.

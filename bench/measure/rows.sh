@@ -5,7 +5,7 @@
 # its own; it takes a minute or two.
 set -euo pipefail
 source "$(dirname "$0")/../common.sh"
-stand_on rows_times gf2_rows cx_base gf2_rows
+stand_on rows_times gf2_rows
 first_run "${1:-100000000}"
 while read -r _ name words plain lanes same; do
     [ "$same" = true ] || { echo "rows.sh: $name answers otherwise over lanes" >&2; exit 1; }

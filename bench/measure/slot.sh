@@ -7,8 +7,7 @@
 set -euo pipefail
 source "$(dirname "$0")/../common.sh"
 chain=${1:-1000000} holes=${2:-14} rounds=${3:-5}
-stand_on steps_times 'cx_base cx_desk cnfx_reader step_text proof_text xlrup_check' \
-    cx_base cx_semantics cx_texts cx_desk cnfx_reader step_text proof_text proof_rules xlrup_check
+stand_on steps_times cx_base cx_desk cnfx_reader step_text proof_text xlrup_check
 first_run
 
 # The least microseconds over the slice and over the slot of a kind of work, in so many runs.
