@@ -23,4 +23,8 @@ loop-place-preserved c =
     ]
 
 pub returns : goal.returns
-returns c = let long = c.len-place-end.ensures.len in let past = c.loop-place-test.false in all_reached c.args.arena.now c.args.self.now.part 0 c.loop-place.place c.loop-place.found.items (omega (arith, long, past)) c.loop-place.invariant
+returns c =
+    let p = c.args.self.now.part in
+    let long = c.len-place-end.ensures.len in
+    let past = c.loop-place-test.false in
+    all_reached c.args.arena.now p 0 c.loop-place.place c.loop-place.found.items (omega (arith, long, past)) c.loop-place.invariant
