@@ -26,4 +26,4 @@ mod tidying;
 mod units;
 
 pub use outcome::TidyOf;
-pub use tidying::{tidy, tidy_from};
+pub use tidying::tidy_from;

@@ -12,7 +12,7 @@ use cx_base::{Formula, LogEvent};
 use std::alloc::Global;
 use step_text::{Sink, SinkFault};
 
-/// As [`crate::tidy`].
+/// As [`crate::tidy_from`], where no clause is known to be tidy.
 pub fn tidy<L: Sink<Item = LogEvent>>(
     alloc: Global,
     arena: &mut Arena,

@@ -151,37 +151,3 @@ pub fn tidy_from<L: Sink<Item = LogEvent>>(
     };
     tidier.tidy_all(arena, log, Search::Queue)
 }
-
-/// Makes the clauses of an arena tidy, together with the units that arise, and tells the log each change.
-///
-/// As [`tidy_from`], where no clause is known to be tidy.
-pub fn tidy<L: Sink<Item = LogEvent>>(
-    alloc: Global,
-    arena: &mut Arena,
-    formula: &Formula,
-    spare: u64,
-    log: &mut L,
-) -> Result<TidyOf, SinkFault>
-    requires proper { AreProper formula.now arena.old }
-    requires spare { IsStepId spare }
-    requires going { L.has_failed log.old ≡ false }
-    ensures tidied { IfDone result (λ units ids. Tidied arena.new units) }
-    ensures each { IfDone result (λ units ids. length ids ≡ length units) }
-    ensures covers { IfDone result (λ units ids. (r : ℕ) → IsLive arena.old r → IsCoveredBy arena.new units (literals_at arena.old r) (learned_at arena.old r)) }
-    ensures derived { IfDone result (λ units ids. (p : TidyPart) → IsPart arena.new units p → IsDerived (IsClauseOf arena.old) (lits_in arena.new p)) }
-    ensures parts { IfDone result (λ units ids. ArePartsOf arena.old arena.new units ids) }
-    ensures learned { IfDone result (λ units ids. (q : ℕ) → IsLive arena.new q → IsTrue (learned_at arena.new q) → clause_at arena.new q ≡ clause_at arena.old q) }
-    ensures wide { IfDone result (λ units ids. (q : ℕ) → length arena.old.clauses ≤ q → IsWide arena.new q) }
-    ensures was { IfDone result (λ units ids. (q : ℕ) → IsLive arena.new q → WasOrCame formula.now arena.old arena.new q) }
-    ensures agrees { IfDone result (λ units ids. IsTold L.Sink spare arena.old log.old (AgreesAgain formula.now spare arena.old arena.new units ids) log.new) }
-    ensures ending { IfEnded result (λ lits. IsTrue (is_ending formula.now.constraints lits)) }
-    ensures ended { IfEnded result (λ lits. IsDerived (IsClauseOf arena.old) lits) }
-    ensures ends { IfEnded result (λ lits. IsTold L.Sink spare arena.old log.old (EndsFrom formula.now spare arena.old lits) log.new) }
-    ensures left { OnErr result (IsTold L.Sink spare arena.old log.old (IsRightFrom formula.now spare arena.old) log.new) }
-    ensures torn { OnFailed result (IsTold L.Sink spare arena.old log.old (IsTornAfter L.Sink formula.now spare arena.old log.new) log.new) }
-    ensures faults { SinkFaultsAs result (L.Sink.faults log.old) (L.Sink.faults log.new) }
-    ensures failed { HasFailedAs result (L.Sink.has_failed log.old) (L.Sink.has_failed log.new) }
-    ensures frame { L.Sink.keeps log.old log.new }
-{
-    tidy_from(alloc, arena, formula, spare, 0, log)
-}

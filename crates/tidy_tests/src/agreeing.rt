@@ -6,7 +6,7 @@ ghost use Rattle.tidy_rules.specs.declared.part.TidyPart.{TidyPart};
 use crate::drawing::{Draw, are_proper, some_clauses};
 use crate::logs::{formula_of, is_right, originals, put_told};
 use clause_arena::Arena;
-use clause_tidy::{TidyOf, plain, tidy};
+use clause_tidy::{TidyOf, plain, tidy_from};
 use cx_base::LitList;
 use log_text::ListLog;
 use std::alloc::{AllocError, Global};
@@ -78,7 +78,7 @@ fn tidied(alloc: Global, draw: Draw, program: TidyProgram) -> Result<TidyEnding,
     let mut steps = originals(alloc, &arena)?;
     let mut log = ListLog::make(alloc);
     let answer = match program {
-        TidyProgram::Queue => tidy(alloc, &mut arena, &formula, SPARE, &mut log),
+        TidyProgram::Queue => tidy_from(alloc, &mut arena, &formula, SPARE, 0, &mut log),
         TidyProgram::Pairs => plain::tidy(alloc, &mut arena, &formula, SPARE, &mut log),
     };
     put_told(&mut steps, &log)?;
