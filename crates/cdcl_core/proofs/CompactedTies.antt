@@ -6,7 +6,7 @@ use Rattle.std.proofs.lemmas.Bool.{cases_lt}
 use Rattle.std.proofs.lemmas.List.{length-map, map-append, take-map}
 use Rattle.cx_base.specs.declared.moved.Move.{Move}
 use Rattle.cx_base.specs.Moved.{moved_to}
-use Rattle.cx_base.specs.Literals.{Literal, negate}
+use Rattle.cx_base.specs.Literals.{Literal, negate, HasTwo}
 use Rattle.cx_base.specs.Problem.{Problem, clauses_of}
 use Rattle.cx_trail.specs.declared.entry.Entry.{Entry as TrailEntry}
 use Rattle.cx_trail.specs.declared.entry.Reason.{Reason}
@@ -28,7 +28,6 @@ use Rattle.search_steps.specs.Search.{Search}
 use Rattle.search_steps.specs.Tied.{IsTied}
 use Rattle.cx_semantics.specs.Tables.{Table}
 use Rattle.cdcl_search.specs.declared.state.SearchState.{SearchState}
-use Rattle.tidy_rules.specs.Tidied.{HasTwo}
 use Rattle.cdcl_search.specs.Ties.{Ties, SearchStands, IsClauseReasonOf, IsWatched, ClauseTies, AreLearned, IsKept, IsNamedBy, IsHeld, NeedsNoLearned, AreUnits, HasReasonOf, ReasonTies, AgreesUpTo}
 use Rattle.cdcl_core.specs.Compacting.{IsCompacted, MovesBelow, StandsStill, LeavesNoOldName}
 use Rattle.cdcl_core.proofs.TidyBefore.{tidy_moved}

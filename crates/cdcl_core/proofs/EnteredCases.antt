@@ -1,7 +1,7 @@
 -- A learned clause is entered: a clause of several literals, and one of a single literal.
 use Rattle.std.proofs.Common.{◌≡◌, refl, sym, ap, ◌∙◌, subst, ℕ, zero, suc, ◌+◌, ◌-◌, ◌<◌, ℤ, true, cond, nat_eq, nat_le, nat_lt, is_some, List, [], ◌∷◌, ◌++◌, length, take, get_or, Some, None, ◌⊎◌, inl, inr, arith, length-append, Contains}
 use Rattle.std.proofs.lemmas.Bool.{eqb-false, ltb-true, ltb-false, and_from}
-use Rattle.cx_base.specs.Literals.{Literal}
+use Rattle.cx_base.specs.Literals.{Literal, HasTwo}
 use Rattle.cx_base.specs.Problem.{Problem, clauses_of}
 use Rattle.cx_semantics.specs.Chain.{has_literal, is_inside, same_literals}
 use Rattle.cx_semantics.specs.Settled.{IsClauseOf}
@@ -30,7 +30,6 @@ use Rattle.cdcl_search.specs.declared.state.SearchState.{SearchState}
 use Rattle.cx_semantics.specs.Marked.{is_among}
 use Rattle.cdcl_search.specs.Ties.{IsNamedBy, AreLearned, AreUnits, RestOnUnits, HasReasonOf, HaveReasons, Ties}
 use Rattle.cdcl_search.proofs.Places.{tied_length}
-use Rattle.tidy_rules.specs.Tidied.{HasTwo}
 use Rattle.tidy_rules.proofs.OneLaws.{not_two}
 use Rattle.cdcl_search.specs.Ties.{AreTidyBefore, IsKept, IsClauseReasonOf, IsHeld, NeedsNoLearned, IsWatched}
 use Rattle.cdcl_core.specs.Entering.{EntersUnit, EntersClause, HasCounts}

@@ -5,7 +5,7 @@ use Rattle.std.specs.List.{list_any, AllByRecursion}
 use Rattle.std.proofs.lemmas.Bool.{eqb-false, and_parts, or_right}
 use Rattle.std.proofs.lemmas.List.{take_more}
 use Rattle.std.proofs.lemmas.List.Elements.{filter_map-append, All-from_recursion, Contains-append_left, Contains-push}
-use Rattle.cx_base.specs.Literals.{Literal, negate}
+use Rattle.cx_base.specs.Literals.{Literal, negate, HasTwo}
 use Rattle.cx_base.specs.Problem.{Problem, clauses_of, clause_in, AreWithin}
 use Rattle.cx_base.specs.declared.constraint.Constraint.{Constraint}
 use Rattle.cx_base.specs.declared.constraint.Constraint.TheVariants as constraint
@@ -29,7 +29,6 @@ use Rattle.cdcl_core.specs.declared.filling.Single.{Single}
 use Rattle.cdcl_core.specs.declared.filling.Filled.{Filled}
 use Rattle.cdcl_core.specs.Clauses.{AreDifferent}
 use Rattle.cdcl_core.specs.Filling.{IsEmpty, clause_number, IsUnitClause, IsClauseTaken, IsFilledUpTo, IsTakenAt, IsNext, Attaches}
-use Rattle.tidy_rules.specs.Tidied.{HasTwo}
 use Rattle.cdcl_core.proofs.Entered.{kept_at, new_at, old_or_new}
 use Rattle.cdcl_core.proofs.OriginalLaws.{few_clauses}
 

@@ -1,6 +1,6 @@
 -- Going back from a conflict and implying what it taught.
 use Rattle.std.proofs.Common.{◌≡◌, sym, ap, ◌∙◌, subst, ℕ, zero, suc, ◌+◌, ◌-◌, ◌<◌, ◌≤◌, ℤ, false, List, [], ◌∷◌, length, get_or, ◌⊎◌, inl, inr, arith, length-append, refl}
-use Rattle.cx_base.specs.Literals.{Literal, negate}
+use Rattle.cx_base.specs.Literals.{Literal, negate, HasTwo}
 use Rattle.cx_base.specs.Problem.{Problem, AreWithin}
 use Rattle.cx_semantics.specs.Chain.{has_literal}
 use Rattle.cx_base.specs.Integers.{integers_of}
@@ -29,7 +29,6 @@ use Rattle.std.proofs.lemmas.List.{length-map, get_or-map}
 use Rattle.conflict_learn.specs.Levels.{second, levels_at}
 use Rattle.conflict_learn.proofs.ChainOfResolutions.{by_cases}
 use Rattle.cdcl_search.specs.declared.state.SearchState.{SearchState}
-use Rattle.tidy_rules.specs.Tidied.{HasTwo}
 use Rattle.cdcl_search.specs.Ties.{Ties, IsWatched, IsFallingFrom}
 use Rattle.cdcl_core.specs.Entering.{EntersUnit, EntersClause}
 use Rattle.cdcl_core.specs.Learning.{IsTaught}

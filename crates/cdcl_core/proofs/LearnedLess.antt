@@ -5,7 +5,7 @@ use Rattle.std.proofs.lemmas.List.{length-set, get_or-set_other}
 use Rattle.std.proofs.lemmas.List.FromFn.{length-range_with_len}
 use Rattle.std.proofs.lemmas.Bool.{and_parts, and_from}
 use Rattle.std.specs.FinMap as map_
-use Rattle.cx_base.specs.Literals.{Literal}
+use Rattle.cx_base.specs.Literals.{Literal, HasTwo}
 use Rattle.cx_base.specs.Problem.{Problem, clauses_of}
 use Rattle.cx_base.specs.declared.steps.LogStep.TheVariants.{Delete}
 use Rattle.cx_base.specs.declared.steps.LogEvent.{LogEvent}
@@ -45,7 +45,6 @@ use Rattle.cdcl_search.specs.Logs.{GoesOn}
 use Rattle.cdcl_search.specs.Tells.{IsLeft, with_events}
 use Rattle.cdcl_core.proofs.TidyBefore.{tidy_still}
 use Rattle.cdcl_search.specs.Ties.{IsNamedBy, first_row_id}
-use Rattle.tidy_rules.specs.Tidied.{HasTwo}
 use Rattle.cdcl_search.specs.Ties.{Ties, SearchStands, IsKept, IsHeld, NeedsNoLearned, AreLearned, RestOnUnits, IsFallingFrom}
 use Rattle.cdcl_core.specs.Reducing.{SearchLoses, WasWatched}
 use Rattle.cdcl_search.proofs.LearnedIds.{among_without}

@@ -2,7 +2,7 @@
 use Rattle.std.proofs.Common.{◌≡◌, ◌≢◌, refl, sym, ap, ◌∙◌, subst, ℕ, ◌+◌, ◌≤◌, true, false, true≢false, nat_eq, eqb-true, List, [], ◌∷◌, ◌++◌, length, get_or, Option, Some, None, is_some, ◌⊎◌, inl, inr, arith}
 use Rattle.std.proofs.lemmas.Bool.{and_from, and_parts, eqb-false}
 use Rattle.std.proofs.lemmas.List.Elements.{All-contains, All-from_recursion}
-use Rattle.cx_base.specs.Literals.{Literal}
+use Rattle.cx_base.specs.Literals.{Literal, HasTwo}
 use Rattle.cx_base.specs.Problem.{Problem, AreWithin, clauses_of}
 use Rattle.cx_base.specs.declared.steps.LogEvent.{LogEvent}
 use Rattle.cx_semantics.specs.Chain.{is_inside, same_literals}
@@ -15,7 +15,6 @@ use Rattle.conflict_learn.proofs.ChainOfResolutions.{by_cases}
 use Rattle.search_steps.specs.Search.{Search, IsSearchIn}
 use Rattle.search_steps.specs.Trail.{held}
 use Rattle.search_steps.proofs.Stored.{of_has}
-use Rattle.tidy_rules.specs.Tidied.{HasTwo}
 use Rattle.tidy_rules.proofs.InsideLaws.{tautology_inside}
 use Rattle.cdcl_search.specs.declared.state.SearchState.{SearchState}
 use Rattle.cdcl_search.specs.Ties.{IsHeld}

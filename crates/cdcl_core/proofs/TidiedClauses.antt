@@ -4,7 +4,7 @@ use Rattle.std.specs.Prelude.{IsSome, IsTrue}
 use Rattle.std.specs.List.{AllByRecursion}
 use Rattle.std.proofs.lemmas.Bool.{and_parts}
 use Rattle.cx_base.specs.Assumptions.{is_ending}
-use Rattle.cx_base.specs.Literals.{Literal, negate}
+use Rattle.cx_base.specs.Literals.{Literal, negate, HasTwo}
 use Rattle.cx_base.specs.Problem.{Problem, clauses_of}
 use Rattle.cx_base.specs.declared.steps.LogStep.{LogStep}
 use Rattle.cx_base.specs.declared.steps.LogStep.TheVariants.{Original, OriginalParity, Clause, ClauseWithHints, Parity, ClauseOfParity, ParityOfClauses, Delete, DeleteParity, Final, FinalParity, MoveClauses, MoveParities}
@@ -22,7 +22,6 @@ use Rattle.search_steps.specs.TidySteps.{SpareReasons}
 use Rattle.search_steps.specs.Trail.{Entry}
 use Rattle.search_steps.proofs.Stored.{has_of, of_has}
 use Rattle.tidy_rules.specs.Runs.{IsTidyStep, RunsTidily}
-use Rattle.tidy_rules.specs.Tidied.{HasTwo}
 use Rattle.tidy_rules.proofs.InsideLaws.{inside_through, some_member, tautology_inside}
 use Rattle.tidy_rules.proofs.OneLaws.{not_two}
 use Rattle.clause_tidy.specs.Agreeing.{Agrees}

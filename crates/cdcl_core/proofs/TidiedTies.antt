@@ -3,7 +3,7 @@ use Rattle.std.proofs.Common.{◌≡◌, refl, sym, ap, ◌∙◌, subst, ℕ, �
 use Rattle.std.specs.Prelude.{IsSome, IsTrue, if◌then◌else◌}
 use Rattle.std.specs.List.{AllByRecursion}
 use Rattle.std.proofs.lemmas.Bool.{cases_lt}
-use Rattle.cx_base.specs.Literals.{Literal}
+use Rattle.cx_base.specs.Literals.{Literal, HasTwo}
 use Rattle.cx_base.specs.Problem.{Problem}
 use Rattle.cx_base.specs.declared.steps.LogEvent.{LogEvent}
 use Rattle.cx_base.specs.declared.steps.LogEvent.TheVariants.{Step}
@@ -29,7 +29,6 @@ use Rattle.search_steps.proofs.TidyCounts.{tidy_counts}
 use Rattle.search_steps.proofs.TidyIds.{parities_are, tidy_ranged, tidy_frees_sums}
 use Rattle.search_steps.proofs.TidySteps.{tidy_steps_keep, told_conflicts}
 use Rattle.tidy_rules.specs.Runs.{IsTidyStep, NoneDeletes, RunsTidily}
-use Rattle.tidy_rules.specs.Tidied.{HasTwo}
 use Rattle.clause_tidy.specs.Agreeing.{Agrees, AreProper}
 use Rattle.clause_tidy.specs.Answers.{HasOwnId}
 use Rattle.clause_tidy.specs.Done.{IsTidied}

@@ -1,7 +1,7 @@
 -- After a tidying the clauses of the log are tidy.
 use Rattle.std.proofs.Common.{◌≡◌, ◌≢◌, sym, ap, ◌∙◌, subst, ℕ, ◌||◌, true, true≢false, List, [], Option, Some, None, unwrap_or, inl, inr, arith}
 use Rattle.std.proofs.lemmas.Bool.{and_from, and_parts, false_from_ne_true, or_cases, or_left, or_right}
-use Rattle.cx_base.specs.Literals.{Literal, negate, same_literal}
+use Rattle.cx_base.specs.Literals.{Literal, negate, same_literal, HasTwo}
 use Rattle.cx_base.specs.Problem.{Problem}
 use Rattle.cx_base.specs.declared.steps.LogEvent.{LogEvent}
 use Rattle.cx_semantics.specs.Chain.{has_literal, is_inside}
@@ -17,7 +17,6 @@ use Rattle.search_steps.specs.TidyLines.{AreTidyClauses}
 use Rattle.search_steps.proofs.ScheduleLaws.{moment_is}
 use Rattle.tidy_rules.specs.Parts.{Tidied}
 use Rattle.tidy_rules.specs.Relations.{bears_on, is_inside_but, strengthens, strengthens_at}
-use Rattle.tidy_rules.specs.Tidied.{HasTwo}
 use Rattle.tidy_rules.specs.declared.part.TidyPart.TheVariants.{Clause}
 use Rattle.tidy_rules.proofs.InsideLaws.{any_by, inside_through, no_tautology_inside}
 use Rattle.clause_tidy.specs.Agreeing.{Agrees}

@@ -8,7 +8,7 @@ use Rattle.std.specs.List.{All, AllByRecursion}
 use Rattle.std.specs.Prelude.{if◌then◌else◌}
 use Rattle.std.specs.Global.{Vec}
 use Rattle.std.proofs.lemmas.Option.{same_Some}
-use Rattle.cx_base.specs.Literals.{Literal, negate, same_literal}
+use Rattle.cx_base.specs.Literals.{Literal, negate, same_literal, HasTwo}
 use Rattle.cx_base.specs.Problem.{Problem, clauses_of, IsWithinVariables}
 use Rattle.cx_base.specs.declared.steps.LogEvent.{LogEvent}
 use Rattle.cx_semantics.specs.Chain.{has_literal, is_inside, same_literals}
@@ -26,7 +26,6 @@ use Rattle.clause_arena.specs.Clauses.{literals_at, id_at}
 use Rattle.search_steps.specs.Engine.{HoldsValues}
 use Rattle.cx_semantics.specs.Ids.{highest_id}
 use Rattle.search_steps.specs.Ids.{IsRanged, ReasonsBelow, AreRowIds}
-use Rattle.tidy_rules.specs.Tidied.{HasTwo}
 use Rattle.tidy_rules.proofs.OneLaws.{not_two}
 use Rattle.search_steps.specs.Quiet.{HasTrue}
 use Rattle.search_steps.specs.Search.{Search, IsSearchIn, forced_on}

@@ -1,7 +1,7 @@
 -- What a search holds before its first unit: its clauses of several literals.
 use Rattle.std.specs.Prelude.{◌≡◌, ◌≢◌, ◌⊎◌, ℕ, ◌+◌, ◌-◌, ◌≤◌, false, List, [], ◌∷◌, ◌++◌, length, get_or, Option, Some, IsSome, IfSome, IsTrue, IsFalse, Contains}
 use Rattle.std.specs.List.{AllByRecursion}
-use Rattle.cx_base.specs.Literals.{Literal}
+use Rattle.cx_base.specs.Literals.{Literal, HasTwo}
 use Rattle.cx_base.specs.Problem.{Problem, clauses_of, AreWithin}
 use Rattle.cx_semantics.specs.Chain.{same_literals}
 use Rattle.cx_semantics.specs.Fresh.{is_tautology}
@@ -9,7 +9,6 @@ use Rattle.clause_arena.specs.Clauses.{ArenaState, IsLive, literals_at, id_at, l
 use Rattle.watch_lists.specs.Watching.{Fits, IsAttached}
 use Rattle.search_policy.specs.Standing.{AllStand}
 use Rattle.cdcl_search.specs.declared.state.SearchState.{SearchState}
-use Rattle.tidy_rules.specs.Tidied.{HasTwo}
 use Rattle.cdcl_search.specs.Ties.{IsWatched}
 use Rattle.cdcl_core.specs.declared.filling.Single.{Single}
 use Rattle.cdcl_core.specs.declared.filling.Filled.{Filled}

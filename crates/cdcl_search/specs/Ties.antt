@@ -2,7 +2,7 @@
 use Rattle.std.specs.Prelude.{◌≡◌, ◌≢◌, ◌⊎◌, ℕ, zero, suc, ◌+◌, ◌-◌, ◌<◌, ◌≤◌, ◌^◌, Bool, false, List, [], ◌∷◌, ◌++◌, length, take, get_or, Option, Some, None, IsTrue, IsFalse, Contains, if◌then◌else◌, ⊤}
 use Rattle.std.specs.List.{AllByRecursion}
 use Rattle.std.specs.FinSet as set
-use Rattle.cx_base.specs.Literals.{Literal, literal_true}
+use Rattle.cx_base.specs.Literals.{Literal, literal_true, HasTwo}
 use Rattle.cx_base.specs.Problem.{Problem, clauses_of}
 use Rattle.cx_base.specs.declared.steps.LogEvent.{LogEvent}
 use Rattle.cx_semantics.specs.Chain.{is_inside}
@@ -14,7 +14,6 @@ use Rattle.cx_trail.specs.declared.entry.Reason.{Reason}
 use Rattle.cx_trail.specs.declared.entry.Reason.TheVariants as reason
 use Rattle.cx_trail.specs.Sequence.{TrailState, entry_at, IsTrueIn, IsAssignedIn}
 use Rattle.tidy_rules.specs.Below.{TidiedBelow}
-use Rattle.tidy_rules.specs.Tidied.{HasTwo}
 use Rattle.clause_arena.specs.Clauses.{IsLive, literals_at, id_at, ArenaState, learned_at}
 use Rattle.watch_lists.specs.Truths.{AreOthersFalse}
 use Rattle.watch_lists.specs.Watching.{Fits, IsAttached, WatchState}

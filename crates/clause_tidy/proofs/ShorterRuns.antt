@@ -5,7 +5,7 @@ use Rattle.std.specs.Prelude.{nat_lt}
 use Rattle.std.specs.FinMap as map_
 use Rattle.std.proofs.lemmas.Bool.{cases_eq, and_parts, and_from}
 use Rattle.cx_base.specs.Assumptions.{is_ending}
-use Rattle.cx_base.specs.Literals.{Literal, negate, same_literal}
+use Rattle.cx_base.specs.Literals.{Literal, negate, same_literal, HasTwo}
 use Rattle.cx_base.specs.Problem.{Problem}
 use Rattle.cx_base.specs.Integers.{literals}
 use Rattle.cx_base.specs.declared.steps.LogStep.TheVariants.{ClauseWithHints, Delete}
@@ -19,7 +19,6 @@ use Rattle.cx_semantics.proofs.SameSets.{HaveSame-by_test, chain_stays_right, in
 use Rattle.clause_arena.specs.Clauses.{ArenaState, Stored, clause_at, IsLive, literals_at, id_at, learned_at, literals_in, id_in, learned_in}
 use Rattle.clause_arena.proofs.PackingLaws.{live_within}
 use Rattle.tidy_rules.specs.Relations.{strengthens_at}
-use Rattle.tidy_rules.specs.Tidied.{HasTwo}
 use Rattle.clause_tidy.specs.Agreeing.{IsNamedBy, Agrees}
 use Rattle.tidy_rules.specs.Hints.{AreHintsFor}
 use Rattle.tidy_rules.specs.Runs.{IsTidyStep, KeepsFree, NoneDeletes, RunsTidily, EndsTidily}

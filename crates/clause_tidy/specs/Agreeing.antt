@@ -1,10 +1,9 @@
 -- When the clauses of an arena are those of a log.
 use Rattle.std.specs.Prelude.{◌≡◌, ◌≤◌, ℕ, List, Some, None}
-use Rattle.cx_base.specs.Literals.{Literal}
+use Rattle.cx_base.specs.Literals.{Literal, HasTwo}
 use Rattle.cx_base.specs.Problem.{Problem, AreWithin}
 use Rattle.cx_semantics.specs.Tables.{Table, get}
 pub use Rattle.tidy_rules.specs.Hints.{IsNamedBy}
-use Rattle.tidy_rules.specs.Tidied.{HasTwo}
 use Rattle.clause_arena.specs.Clauses.{ArenaState, IsLive, literals_at, id_at}
 
 -- Each clause of the arena is the log's live clause of its id, each under an id of its own, and each live clause with two different literals is one of them. The spare id is that of no live clause.

@@ -1,5 +1,5 @@
 -- Literals and their truth under values.
-use Rattle.std.specs.Prelude.{ℕ, ◌+◌, ◌*◌, ◌/◌, ◌%◌, ◌-◌, Bool, true, false, cond, eqb, not, ◌&&◌, List, get_or, nat_eq}
+use Rattle.std.specs.Prelude.{◌≢◌, ℕ, ◌+◌, ◌*◌, ◌/◌, ◌%◌, ◌-◌, Bool, true, false, cond, eqb, not, ◌&&◌, List, Contains, get_or, nat_eq}
 
 -- a variable, numbered from 1, or its negation
 pub record Literal : Type 0 where
@@ -40,3 +40,11 @@ value_of values x = get_or values (x - 1) false
 -- whether the literal is true
 abbrev pub literal_true : List Bool → Literal → Bool
 literal_true values l = differ l.negative (value_of values l.variable)
+
+-- the list has two different literals
+pub record HasTwo (lits : List Literal) : Type 0 where
+  pub first : Literal
+  pub second : Literal
+  pub has_first : Contains lits first
+  pub has_second : Contains lits second
+  pub differ : first ≢ second

@@ -1,12 +1,12 @@
 -- Where a log says that its clauses are tidy.
 use Rattle.std.specs.Prelude.{◌≡◌, ℕ, ◌+◌, ◌≤◌, List, ◌∷◌, ◌++◌, filter_map, length, Option, Some, None, IsFalse, ⊤}
-use Rattle.cx_base.specs.Literals.{Literal}
+use Rattle.cx_base.specs.Literals.{Literal, HasTwo}
 use Rattle.cx_base.specs.Lines.{Line, item, tidy, items_of}
 use Rattle.cx_base.specs.declared.steps.LogEvent.{LogEvent}
 use Rattle.cx_base.specs.declared.steps.LogEvent.TheVariants.{Step, Conflict}
 use Rattle.cx_semantics.specs.Marked.{mark_of, clause_at}
 use Rattle.cx_semantics.specs.Tables.{Table, get}
-use Rattle.tidy_rules.specs.Tidied.{HasTwo, TidiedBy}
+use Rattle.tidy_rules.specs.Tidied.{TidiedBy}
 use Rattle.search_steps.specs.Schedule.{IsRestartAt, moment_after}
 
 -- how many marks there are, and how many tidy lines

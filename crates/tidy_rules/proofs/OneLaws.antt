@@ -2,11 +2,10 @@
 use Rattle.std.proofs.Common.{◌≡◌, inl, inr, sym, ap, ◌∙◌, true, List, [], ◌∷◌, true≢false}
 use Rattle.std.specs.List.{Contains}
 use Rattle.std.proofs.lemmas.Bool.{and_parts}
-use Rattle.cx_base.specs.Literals.{Literal}
+use Rattle.cx_base.specs.Literals.{Literal, HasTwo}
 use Rattle.cx_semantics.specs.Chain.{has_literal, is_inside, same_literals}
 use Rattle.cx_semantics.proofs.Closure.{has_by_inside}
 use Rattle.cx_semantics.proofs.Members.{has_by_index, has_split}
-use Rattle.tidy_rules.specs.Tidied.{HasTwo}
 
 contained_has : (lits : List Literal) (l : Literal) → Contains lits l → has_literal lits l ≡ true
 contained_has lits l (i, less, e) = ap (has_literal lits) (sym e) ∙ has_by_index lits i l less

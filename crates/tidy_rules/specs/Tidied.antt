@@ -1,17 +1,9 @@
 -- Tidy clauses.
-use Rattle.std.specs.Prelude.{◌≢◌, List, IsFalse, Contains}
+use Rattle.std.specs.Prelude.{◌≢◌, List, IsFalse}
 use Rattle.cx_base.specs.Literals.{Literal}
 use Rattle.cx_semantics.specs.Chain.{is_inside}
 use Rattle.cx_semantics.specs.Fresh.{is_tautology}
 use Rattle.tidy_rules.specs.Relations.{strengthens}
-
--- the list has two different literals
-pub record HasTwo (lits : List Literal) : Type 0 where
-  pub first : Literal
-  pub second : Literal
-  pub has_first : Contains lits first
-  pub has_second : Contains lits second
-  pub differ : first ≢ second
 
 -- Of clauses under names, none has a literal together with its negation, none lies inside one of another name, and none strengthens one of another name.
 pub record TidiedBy {N : Type 0} (IsThere : N → Type 0) (clause : N → List Literal) : Type 0 where

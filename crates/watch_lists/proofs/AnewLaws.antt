@@ -4,22 +4,22 @@ use Rattle.std.specs.List.{All, Contains}
 use Rattle.std.proofs.lemmas.Bool.{cases_eq, false≢true}
 use Rattle.std.proofs.lemmas.List.{get_or-set_same, get_or-set_other, get_or_default}
 use Rattle.std.proofs.lemmas.List.Elements.{All-get_or}
-use Rattle.cx_base.specs.Literals.{Literal}
+use Rattle.cx_base.specs.Literals.{Literal, HasTwo}
 use Rattle.cx_trail.specs.Sequence.{TrailState}
 use Rattle.std.specs.Prelude.{Option, Some, None, IsSome}
 use Rattle.clause_arena.specs.Clauses.{ArenaState, Stored, clause_at, literals_at, literals_in, IsLive}
-use Rattle.watch_lists.specs.Anew.{AreChosenBelow, AreWatchable, HasDifferent, IsWatchable}
+use Rattle.watch_lists.specs.Anew.{AreChosenBelow, AreWatchable, IsWatchable}
 use Rattle.watch_lists.specs.Attaching.{literal_at}
 use Rattle.watch_lists.specs.Watching.{clause_of, partner, held_at, no_literal, IsAttached, looked_at, Fits}
 use Rattle.watch_lists.proofs.AttachLaws.{IsEntered, partner_first, partner_second, entered_as, node_cases}
 use Rattle.watch_lists.proofs.NodeLaws.{clause_in, clause_of_partner}
 
 -- ---- a clause with two different literals
-pub has_front : (lits : List Literal) → HasDifferent lits → 0 < length lits
+pub has_front : (lits : List Literal) → HasTwo lits → 0 < length lits
 has_front lits d = let less = d.has_first.1 in omega (arith, less)
 
 -- not all are the front one
-pub not_alike : (lits : List Literal) (front : Literal) → HasDifferent lits → ((k : ℕ) → k < length lits → literal_at lits k ≡ front) → ⊥
+pub not_alike : (lits : List Literal) (front : Literal) → HasTwo lits → ((k : ℕ) → k < length lits → literal_at lits k ≡ front) → ⊥
 not_alike lits front d same = d.differ (is d.first d.has_first ∙ sym (is d.second d.has_second))
   where
     is : (l : Literal) → Contains lits l → l ≡ front

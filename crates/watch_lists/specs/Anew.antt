@@ -1,22 +1,14 @@
 -- Watches that are made anew for the clauses of an arena.
 use Rattle.std.specs.Prelude.{ℕ, ◌≢◌, ◌<◌, ◌≤◌, Bool, List}
 use Rattle.std.specs.List.{All, Contains}
-use Rattle.cx_base.specs.Literals.{Literal}
+use Rattle.cx_base.specs.Literals.{Literal, HasTwo}
 use Rattle.clause_arena.specs.Clauses.{ArenaState, literals_at, IsLive}
 use Rattle.watch_lists.specs.Watching.{clause_of, partner, held_at, IsAttached}
-
--- the list has two different literals
-pub record HasDifferent (lits : List Literal) : Type 0 where
-  pub first : Literal
-  pub second : Literal
-  pub has_first : Contains lits first
-  pub has_second : Contains lits second
-  pub differ : first ≢ second
 
 -- the clause is over the variables, and has two different literals
 pub record IsWatchable (variables : ℕ) (lits : List Literal) : Type 0 where
   pub within : All (λ l. (1 ≤ l.variable) × (l.variable ≤ variables)) lits
-  pub different : HasDifferent lits
+  pub different : HasTwo lits
 
 -- so it is with each clause of the arena
 abbrev pub AreWatchable : ℕ → ArenaState → Type 0

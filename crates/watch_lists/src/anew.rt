@@ -1,8 +1,9 @@
 //! Choosing anew what each clause of an arena is watched at.
 ghost use Rattle.std.specs.Prelude.{◌≡◌, ◌≢◌, ◌<◌, ◌≤◌, ◌+◌, ◌-◌, ◌*◌, ◌^◌, ℕ, length, IfOk, OnOk, OnErr};
 ghost use Rattle.std.specs.List.{All, Contains};
+ghost use Rattle.cx_base.specs.Literals.{HasTwo};
 ghost use Rattle.clause_arena.specs.Clauses.{IsLive, literals_at};
-ghost use Rattle.watch_lists.specs.Anew.{AreChosenBelow, AreWatchable, HasDifferent};
+ghost use Rattle.watch_lists.specs.Anew.{AreChosenBelow, AreWatchable};
 ghost use Rattle.watch_lists.specs.Attaching.{literal_at};
 ghost use Rattle.watch_lists.specs.Walking.{AreOf};
 
@@ -14,7 +15,7 @@ use clause_arena::Arena;
 use cx_base::{ClauseRef, Lit};
 use std::alloc::AllocError;
 
-// Makes room for what is said of long clauses, and gives the place after the last clause.
+/// Makes room for what is said of long clauses, and gives the place after the last clause.
 fn grow_starts(starts: &mut Starts, arena: &Arena) -> Result<usize, AllocError>
     ensures all { IfOk result (λ end. (r : ℕ) → IsLive arena.now r → r < end) }
     ensures last { IfOk result (λ end. 0 < end → IsLive arena.now (end - 1)) }
@@ -31,7 +32,7 @@ fn grow_starts(starts: &mut Starts, arena: &Arena) -> Result<usize, AllocError>
     Ok(end)
 }
 
-// Room for the nodes of each clause.
+/// Room for the nodes of each clause.
 pub(crate) fn make_rooms(
     nodes: &mut Nodes,
     lists: &mut NodeLists,
@@ -51,9 +52,9 @@ pub(crate) fn make_rooms(
     make_room(nodes, lists, (end - 1) as u32)
 }
 
-// The first literal that differs from the one at the front.
+/// The first literal that differs from the one at the front.
 fn other_one(lits: &[Lit]) -> Lit
-    requires { HasDifferent lits.now }
+    requires { HasTwo lits.now }
     ensures inside { Contains lits.now result }
     ensures apart { literal_at lits.now 0 ≢ result }
 {
@@ -66,9 +67,9 @@ fn other_one(lits: &[Lit]) -> Lit
     unreachable!()
 }
 
-// Chooses what the clause at a place is watched at. Where there is none, it is detached.
+/// Chooses what the clause at a place is watched at. Where there is none, it is detached.
 fn choose_one(nodes: &mut Nodes, lists: &mut NodeLists, arena: &Arena, place: u32)
-    requires different { IsLive arena.now place → HasDifferent (literals_at arena.now place) }
+    requires different { IsLive arena.now place → HasTwo (literals_at arena.now place) }
     requires room { place < length nodes.old.attached.items }
     requires few { length lists.old.held < 2 ^ 32 }
     requires pairs { length lists.old.held ≡ 2 * length nodes.old.attached.items }
@@ -90,9 +91,9 @@ fn choose_one(nodes: &mut Nodes, lists: &mut NodeLists, arena: &Arena, place: u3
     nodes.attached[at] = true;
 }
 
-// Chooses what each clause of the arena is watched at, and detaches all others.
+/// Chooses what each clause of the arena is watched at, and detaches all others.
 pub(crate) fn choose_all(nodes: &mut Nodes, lists: &mut NodeLists, arena: &Arena)
-    requires different { (r : ℕ) → IsLive arena.now r → HasDifferent (literals_at arena.now r) }
+    requires different { (r : ℕ) → IsLive arena.now r → HasTwo (literals_at arena.now r) }
     requires few { length lists.old.held < 2 ^ 32 }
     requires pairs { length lists.old.held ≡ 2 * length nodes.old.attached.items }
     ensures pairs { length lists.new.held ≡ 2 * length nodes.new.attached.items }
