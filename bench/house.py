@@ -17,7 +17,7 @@ words       words of README.md, CONTRIBUTING.md, bench/RESULTS.md and docs/*.md,
 links       links of these pages to a file that is not there, or to a heading that its page does not have
 comments    those of src/ and, after a plus, of specs/: blocks that begin with 'The same' or 'So does', and the words
             behind (mostly *after*), stands (mostly *is*), want of memory (*out of memory*), front (mostly *prefix*);
-            what a word means is for a reader to judge. 'In front of' is not counted
+            what a word means is for a reader to judge. 'In front of' and 'to stand for' are not counted
 
 The text of a file is scanned, and not parsed: comments, strings and character literals are blanked, then brackets are matched.
 """
@@ -47,8 +47,10 @@ PHRASES = {
     "behind": re.compile(r"\bbehind\b", re.I),
     "stands": re.compile(r"\bstands?\b", re.I),
     "want of memory": re.compile(r"\bwant of memory\b", re.I),
-    "front": re.compile(r"(?<!in )\bfronts?\b", re.I),
+    "front": re.compile(r"\bfronts?\b", re.I),
 }
+# What has words of these phrases and is plain English.
+PLAIN = re.compile(r"\bin front\b|\bstands? for\b|\bfor which\b[^.,;:]*\bstands?\b", re.I)
 
 
 class Function(NamedTuple):
@@ -133,7 +135,8 @@ def places_of(phrase, files):
     for path, text in files:
         for block in comments(path, text):
             whole = "\n".join(line for _, line in block)
-            for found in phrase.finditer(re.sub(r"\s", " ", whole)):
+            judged = PLAIN.sub(lambda it: " " * len(it[0]), re.sub(r"\s", " ", whole))
+            for found in phrase.finditer(judged):
                 number, line = block[whole.count("\n", 0, found.start())]
                 yield f"{path.relative_to(TOP)}:{number}", line.strip()
 
