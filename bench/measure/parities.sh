@@ -14,38 +14,8 @@ need cryptominisat5 valgrind /usr/bin/time
 limit=${1:-60}
 acts=${2:-1000000}
 
-# The small program: parities and values as the tests have them, and a loop of acts that tells no reason.
-write_program() {
-    local tests=$here/../crates/parity_tests crate=$work/crates/parity_times name
-    mkdir -p "$crate/src" "$crate/specs" "$crate/proofs/driven"
-    for name in cx_base cx_semantics gf2_rows parity_engine gf2_matrix gauss_jordan gauss_incremental; do
-        cp -r "$here/../crates/$name" "$work/crates/"
-    done
-    rm -rf "$work"/crates/*/must-fail "$work"/crates/*/out
-    grep -E '^(cx_base|cx_semantics|gf2_rows|parity_engine|gf2_matrix|gauss_jordan|gauss_incremental):' "$here/../crates.txt" > "$work/crates.txt"
-    echo 'parity_times: cx_base parity_engine gauss_jordan gauss_incremental' >> "$work/crates.txt"
-    cp "$tests/src/parities.rt" "$crate/src/"
-    cp "$tests"/specs/*.antt "$crate/specs/"
-    cp -r "$tests/proofs/parities" "$crate/proofs/"
-    sed -i 's/Rattle\.parity_tests\./Rattle.parity_times./' "$crate"/proofs/parities/*/*.antt
-    : > "$crate/proofs/Lib.antt"
-    lay_out parity_times "$crate"
-    # The functions of the tests that keep the values beside the engine, as they stand there.
-    {
-        cat "$here/programs/parity_times/driven/head.rt.part"
-        awk '/^\/\/\/ Assigns the literal, in the engine/ { on = 1 } on { print } /^}/ { if (on) print ""; on = 0 }' "$tests/src/driven.rt"
-        cat "$here/programs/parity_times/driven/events.rt.part"
-        awk '/^\/\/\/ (The value, if its level|The values whose levels|Takes back the levels above a lower|Opens a level, if there|Assigns the literal, if its variable)/ { on = 1 } on { print } /^}/ { if (on) print ""; on = 0 }' "$tests/src/driven.rt"
-        cat "$here/programs/parity_times/driven/acts.rt.part"
-    } > "$crate/src/driven.rt"
-}
-
 engines() {
-    write_program
-    if ! (cd "$work/crates/parity_times" && rt run -- "$acts" > "$work/run.log" 2>&1); then
-        cat "$work/run.log" >&2
-        exit 1
-    fi
+    (stand_on parity_times cx_base parity_engine gauss_jordan gauss_incremental parity_driver; first_run "$acts")
     awk '
         $1 == "engine" { events[$2] = $3; millis[$2] = $4 > 0 ? $4 : 1 }
         END {

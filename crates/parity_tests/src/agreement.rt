@@ -5,10 +5,10 @@ ghost use Rattle.cx_base.specs.Problem.{AreWithin};
 ghost use Rattle.cx_base.specs.declared.literal.TheConstants.{MAX_VARIABLE};
 
 use crate::driven::{Act, trace_of};
-use crate::parities::{Numbers, any_parities};
 use cx_base::ParityList;
 use gauss_incremental::{Incremental, ShortFirst};
 use gauss_jordan::Scratch;
+use parity_driver::{Numbers, any_parities};
 use parity_engine::ParityEngine;
 use std::alloc::{AllocError, Global};
 use std::test::Fail;

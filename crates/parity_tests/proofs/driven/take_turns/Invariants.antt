@@ -1,4 +1,4 @@
-use Rattle.parity_tests.specs.Driven.{IsAt}
+use Rattle.parity_driver.specs.Driven.{IsAt}
 use Rattle.parity_tests.proofs.driven.take_turns.Given as goal
 
 abbrev pub invariant-loop-act : goal.invariant-loop-act

@@ -1,4 +1,4 @@
--- An engine whose values a test keeps beside it.
+-- An engine whose values are kept beside it.
 use Rattle.std.specs.Prelude.{◌≡◌, ℕ, List, length, Option}
 use Rattle.parity_engine.specs.declared.state.Held.{Held}
 use Rattle.parity_engine.specs.State.{State}
