@@ -20,7 +20,7 @@ build() {
     grep -qx 's VERIFIED' "$work/answer"
 }
 
-# The processor time of a command in seconds. What it prints stands in $work/answer.
+# The processor time of a command in seconds. What it prints is in $work/answer.
 seconds() {
     local TIMEFORMAT=%U
     { time "$@" > "$work/answer" 2>&1; } 2>&1
@@ -48,12 +48,12 @@ megabytes() {
     cat "$@" | wc -c | awk '{ printf "%.1f MB", $1 / 1e6 }'
 }
 
-# One row of the table: what is measured, on what, cxsat, what stands beside it, and cxsat's over the other's.
+# One row of the table: what is measured, on what, cxsat, what is beside it, and cxsat's over the other's.
 row() {
     printf '| %s | %s | %s | %s | %s |\n' "$@"
 }
 
-# The files of a program that `programs/` holds, into a folder, each under its name without `.in`: a Rattle file may stand
+# The files of a program that `programs/` holds, into a folder, each under its name without `.in`: a Rattle file may be
 # nowhere in the repository but in a crate that the gate proves.
 lay_out() {
     local name
@@ -63,7 +63,7 @@ lay_out() {
     done
 }
 
-# Seconds, megabytes and status of a command, as "S MB STATUS"; its output stands in $work/answer. One that was cut off at
+# Seconds, megabytes and status of a command, as "S MB STATUS"; its output is in $work/answer. One that was cut off at
 # $limit seconds has taken them at the least. Where $clock is '%U %S', the system's time counts beside the user's.
 run() {
     local status=0 taken TIMEFORMAT=${clock:-%U}
@@ -107,7 +107,7 @@ least_of_both() {
     done | awk '{ taken = $1 + $2; which = NR % 2; if (NR < 3 || taken < best[which]) best[which] = taken } END { printf "%.3f %.3f", best[1], best[0] }'
 }
 
-# Copies of these crates, without their wrong bodies, and their lines of crates.txt: a program of `programs/` stands on them. What
+# Copies of these crates, without their wrong bodies, and their lines of crates.txt: a program of `programs/` uses them. What
 # a check of them kept goes along, so that only what changed since is proved again.
 bring() {
     local crate
@@ -146,7 +146,7 @@ stand_on() {
     cd "$work/crates/$name"
 }
 
-# Proves, builds and runs the program of this folder once, on these words; what it prints stands in $work/run.log.
+# Proves, builds and runs the program of this folder once, on these words; what it prints is in $work/run.log.
 first_run() {
     rt run -- "$@" > "$work/run.log" 2>&1 || { cat "$work/run.log" >&2; exit 1; }
 }

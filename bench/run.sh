@@ -3,7 +3,7 @@
 # its head: what is before "## The tables" is written by hand and stays.
 # The peers are Debian's packages: apt-get install minisat cryptominisat cadical valgrind time gcc
 # usage: bench/run.sh [FILE [LANES]]     (more than an hour in one lane once the program is built; nothing else should run meanwhile)
-# With more lanes so many scripts run side by side: each row still compares what one script ran one behind the other. One of them,
+# With more lanes so many scripts run side by side: each row still compares what one script ran one after the other. One of them,
 # limits.sh, takes up to 12 GB of memory.
 set -euo pipefail
 source "$(dirname "$0")/common.sh"

@@ -1,5 +1,5 @@
 # Writes the formula of SIZE queens on a board of SIZE rows and columns, none of which attacks another: awk -v size=SIZE -f queens.awk
-# Variable SIZE * (r - 1) + c says that a queen stands in row r and column c.
+# Variable SIZE * (r - 1) + c says that a queen is in row r and column c.
 function at(row, column) { return size * (row - 1) + column }
 # Not both of two fields have a queen.
 function apart(row, column, other_row, other_column) { clauses[++count] = -at(row, column) " " (-at(other_row, other_column)) " 0" }

@@ -7,7 +7,7 @@ build
 ulimit -v 1000000
 failures=0
 
-# Runs the program: what is tried, the wanted status, a line that must stand in one of the outputs, and the words.
+# Runs the program: what is tried, the wanted status, a line that must be in one of the outputs, and the words.
 try() {
     local what=$1 status=$2 line=$3 had=0
     shift 3
@@ -20,7 +20,7 @@ try() {
     fi
 }
 
-# The same, of the texts that stand in files: `check` and `elab` of the second one, `solve` and `affine` of the formula.
+# As `try`, of texts in files: `check` and `elab` of the second one, `solve` and `affine` of the formula.
 expect() {
     try "$1" "$2" "$3" check "$work/formula" "$work/proof"
 }
@@ -96,7 +96,7 @@ expect 'the greatest variable' 7 'c step 1 P11'
 printf 'p cnf 268435456 1\n1 0' > "$work/formula"
 expect 'a variable above the greatest' 9 'error: limit L1 at byte 6'
 
-# A text of so many bytes: ends of lines, and then this, in front of them what comes third.
+# A text of so many bytes: line ends, then this; before them what comes third.
 lines() {
     printf '%s' "${3-}"
     head -c $(($1 - ${#2} - $(printf '%s' "${3-}" | wc -c))) /dev/zero | tr '\0' '\n'
@@ -109,8 +109,8 @@ printf 'p cnf 1 1\n1 0\n' > "$work/formula"
 try 'a proof as long as may be' 7 'c step 2 P11' check "$work/formula" <(lines $most '5 1 0 1 0')
 try 'a proof longer than may be' 9 'error: limit L2 second' check "$work/formula" <(lines $((most + 1)) '5 1 0 1 0')
 try 'a log as long as may be' 8 'c step 2 E11' elab "$work/formula" <(lines $most 'o 1 1 0') "$work/made"
-try 'a proof as long as may be, with a gap behind its first step' 7 'c step 3 P11' check "$work/formula" <(lines $most '6 1 0 1 0' '5 1 0 1 0')
-try 'a log as long as may be, with a gap behind its first step' 8 'c step 3 E11' elab "$work/formula" <(lines $most 'd 1 1 0' 'o 1 1 0') "$work/made"
+try 'a proof as long as may be, with a gap after its first step' 7 'c step 3 P11' check "$work/formula" <(lines $most '6 1 0 1 0' '5 1 0 1 0')
+try 'a log as long as may be, with a gap after its first step' 8 'c step 3 E11' elab "$work/formula" <(lines $most 'd 1 1 0' 'o 1 1 0') "$work/made"
 try 'a log longer than may be' 9 'error: limit L2 second' elab "$work/formula" <(lines $((most + 1)) 'o 1 1 0') "$work/made"
 
 printf 'p cnf 2 1\n1 2 0\n' > "$work/formula"

@@ -11,7 +11,7 @@ program=$here/../crates/cxsat/out/cxsat
 gcc -O2 -shared -fPIC -o "$work/refused.so" "$here/hostile/refused_growth.c" -ldl
 wrong=0
 
-# One run with a growth refused, none where the number is 0. Its status stands in $status, its output in a file.
+# One run with a growth refused, none where the number is 0. Its status is in $status, its output in a file.
 run() {
     local refused=$1 output=$2
     shift 2

@@ -1,5 +1,5 @@
 # Makes a log of a formula of clauses and a proof of chains over them: originals, then each step as an added clause.
-# Set hints=1 for the proof's hints behind each added clause, hints=0 for none. Reads the formula, then the proof.
+# Set hints=1 for the proof's hints after each added clause, hints=0 for none. Reads the formula, then the proof.
 FNR == 1 { file++ }
 file == 1 && ($1 == "p" || $1 == "c") { next }
 file == 1 { print "o", ++originals, $0; next }

@@ -5,7 +5,7 @@ usage: bench/make/moves.py SEED [EVERY [PAIRS]] < LOG > MOVED
 
 Clauses move or, where the log has them, parities: along a cycle, as two that change places, along a chain whose last id is free, or to
 the id that they have. Without EVERY a move comes after every fourth step or so, of up to six pairs. With EVERY a move comes after each
-so many steps and has PAIRS pairs (a hundred), or as many as are live of the kind of which more are. Each step stands on a line of its
+so many steps and has PAIRS pairs (a hundred), or as many as are live of the kind of which more are. Each step is on a line of its
 own, as `solve` writes them. What is drawn is drawn by SplitMix64 from the seed, so that a seed gives the same log everywhere.
 """
 import sys
@@ -29,13 +29,13 @@ class Draw:
 
 
 class Ids:
-    """The ids that the log before names of a kind, and those under which the same stands now."""
+    """The ids that the log before names of a kind, and those under which the same is now."""
 
     def __init__(self):
         self.now = {}  # from a live id of the log before to the id now
         self.before = {}  # and back
         self.live = []  # the live ids now, in any order
-        self.place = {}  # where each of them stands there
+        self.place = {}  # where each of them is there
         self.fresh = 0  # no id above it was ever named
 
     def put(self, id):
@@ -74,7 +74,7 @@ class Ids:
         return self.now.get(id, id)
 
     def move(self, pairs):
-        """The same stands under the new ids."""
+        """What was under the old ids is under the new ones."""
         old = [(self.before.pop(a), b) for a, b in pairs]
         for a, _ in pairs:
             self.forget(a)

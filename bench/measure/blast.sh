@@ -1,7 +1,7 @@
 #!/usr/bin/env bash
 # Measures `cxsat blast`:
 # - its time and the bytes that it writes on parities of three variables, at a size and at twice its size, beside the time of reading the same
-#   formula (by `check`, which stops behind it at a token that is none of its grammar) and of writing as many bytes (by `cat`);
+#   formula (by `check`, which then stops at a token that is none of its grammar) and of writing as many bytes (by `cat`);
 # - on drawn formulas with wide parities, that `minisat`, `cadical` and `cxsat solve` answer on the formula in clauses what `cxsat solve`
 #   answers on the given one, that `cxsat model` judges the values of each right on the given one, and that `cxsat solve` finds each piece
 #   of each parity in the clauses again: in its log each piece is a parity that comes from clauses.

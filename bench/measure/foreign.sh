@@ -1,7 +1,7 @@
 #!/usr/bin/env bash
 # Times `cxsat elab` on the FRAT logs that `cryptominisat5` (Debian's package) writes of its own refutations, as they come and
 # without their hints, beside the time that the solver took to refute the formula and write the log; and `cxsat check` on the proofs.
-# With `drat-trim` on the path, the hints of our proof stand beside those of its proof (`-L`) of the same additions and deletions.
+# With `drat-trim` on the path, the hints of our proof are beside those of its proof (`-L`) of the same additions and deletions.
 # usage: bench/measure/foreign.sh [LIMIT]     seconds after which a run is cut off (300)
 set -euo pipefail
 source "$(dirname "$0")/../common.sh"

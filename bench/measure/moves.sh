@@ -2,7 +2,7 @@
 # Times `cxsat elab` on a log and on the same log with moves of ids in it, whose proofs must be the same byte by byte: on logs that
 # `solve` writes with moves drawn by bench/make/moves.py, the longest of a million steps, and on logs of a million steps every tenth of which
 # moves a hundred ids, one of an implication chain with the least steps that there are and one of pigeonholes whose clauses are wide. Each is measured at half its
-# size too. With another program of the same commands in BEFORE its instructions on the logs without moves stand beside.
+# size too. With another program of the same commands in BEFORE its instructions on the logs without moves are beside.
 # usage: [BEFORE=PROGRAM] bench/measure/moves.sh [CHAIN [HOLES]]
 set -euo pipefail
 source "$(dirname "$0")/../common.sh"

@@ -2,7 +2,7 @@
 # Measures the engines of parities and the search over parities alone, as ratios in one run:
 # - assignments and backjumps a second of `Incremental` beside `Scratch`, over 200 parities of 300 variables;
 # - `cxsat solve` beside `cryptominisat5`, which runs as it comes and with its bounds on matrices lifted: inconsistent parities,
-#   planted instances, ladders as x-lines, 20,000 parities that share no variable or stand in one chain, 16,000 of three to five
+#   planted instances, ladders as x-lines, 20,000 parities that share no variable or are in one chain, 16,000 of three to five
 #   variables over 20,000, and two wide ones that share every third variable;
 # - `cxsat solve` of ladders and inconsistent systems by clauses beside the same by x-lines.
 # usage: bench/measure/parities.sh [LIMIT [ACTS]]

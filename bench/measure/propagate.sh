@@ -45,10 +45,10 @@ own=$(rate "$sure" "$seconds") their=$(rate "$theirs" "$their_seconds")
 row 'unit propagation' "$watched clauses of three literals over $vars variables, seed $seed: $rounds rounds in $millis ms by the clock" \
     "$own propagations a second ($(rate "$put" "$seconds") with those of calls that ended in a conflict)" "minisat: $their propagations a second" "$(ratio "$own" "$their")"
 
-# The same rounds behind ten reductions, each of which found 100,000 learned clauses and left half of them: no learned clause is
+# These rounds after ten reductions, each of which found 100,000 learned clauses and left half of them: no learned clause is
 # left in the end, so both walk over the same clauses.
 reduced() {
     out/propagate_times "$literals" "$1" "$formula" | awk '{ printf "%.0f", $4 * 1000 / $5 }'
 }
 fresh=$(reduced 0) later=$(reduced 10)
-row 'unit propagation' "$watched clauses of three literals, behind ten reductions" "$later literals a second" "before the first: $fresh literals a second" "$(ratio "$later" "$fresh")"
+row 'unit propagation' "$watched clauses of three literals, after ten reductions" "$later literals a second" "before the first: $fresh literals a second" "$(ratio "$later" "$fresh")"

@@ -48,7 +48,7 @@ measure() {
     fi
 }
 
-# Parities that stand as clauses beside the same ones as x-lines.
+# Parities as clauses beside the same ones as x-lines.
 hidden() {
     local family=$1 kind=$2 size=$3 own own_memory status shown shown_memory shown_status own_conflicts
     awk -v kind="$kind" -v size="$size" -v seed="$size" -f "$here/make/instance.awk" > "$work/formula"

@@ -19,7 +19,7 @@ share() {
     awk -v part="$1" -v whole="$2" 'BEGIN { printf "%d (%.1f %%)", part, (whole > 0 ? 100 * part / whole : 0) }'
 }
 
-# The row of a proof, whose core stands in $work/told: what it is, the seconds and megabytes of `trim`, those of `check`. What the
+# The row of a proof, whose core is in $work/told: what it is, the seconds and megabytes of `trim`, those of `check`. What the
 # program takes by itself leaves no ratio of memory for a proof of less than a megabyte.
 tell() {
     local what=$1 taken=$2 memory=$3 checked=$4 check_memory=$5 steps core constraints bytes
