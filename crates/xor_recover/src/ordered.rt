@@ -21,7 +21,7 @@ pub(crate) struct Ordered {
     pub wholes: Vec<Whole>,
 }
 
-/// The clauses of a formula as they stand.
+/// The clauses of a formula, in its order.
 fn in_file_order(alloc: Global, formula: &Formula) -> Result<Ordered, AllocError>
     ensures starts { IfOk result (λ o. AreStarts (clauses_of formula.now.constraints) (o.starts.items ++ starts_of_all o.wholes.items)) }
     ensures wholes { IfOk result (λ o. AllByRecursion (IsWhole (clauses_of formula.now.constraints)) o.wholes.items) }

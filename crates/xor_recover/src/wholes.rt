@@ -1,7 +1,7 @@
 //! Parities whose clauses follow one another.
 //!
 //! Whoever writes a parity as clauses mostly writes them so. Their variables are in the same order then, so that the clauses are
-//! compared as they stand, and only the first is put in order.
+//! compared as they are, and only the first is put in order.
 ghost use Rattle.std.specs.Prelude.{◌≡◌, ◌<◌, ◌≤◌, ◌+◌, ℕ, [], length, slice_index_or, Some, IfOk, IfSome};
 ghost use Rattle.std.specs.Bool.{OnTrue};
 ghost use Rattle.cx_base.specs.Literals.{Literal};
