@@ -163,8 +163,8 @@ impl<'f> IndexedClauses<'f> {
             move_in(&mut self.engine, alloc, moves);
             move_in(&mut self.recent.engine, alloc, moves);
         } else {
-            self.engine = None;
-            self.recent.engine = None;
+            keep_if(false, &mut self.engine);
+            keep_if(false, &mut self.recent.engine);
         }
         judged
     }
@@ -176,10 +176,8 @@ impl<'f> IndexedClauses<'f> {
         ensures err { IfErr result (IsRefusedBy (moving self.old.parities moves.now)) }
     {
         let judged = self.live.judge_and_move(Kind::Parities, moves);
-        if judged.is_err() {
-            self.engine = None;
-            self.recent.engine = None;
-        }
+        keep_if(judged.is_ok(), &mut self.engine);
+        keep_if(judged.is_ok(), &mut self.recent.engine);
         judged
     }
 

@@ -205,7 +205,7 @@ impl Recent {
         let limit = match limit {
             Some(limit) => limit,
             None => {
-                self.engine = None;
+                keep_if(false, &mut self.engine);
                 return Ok(());
             }
         };
