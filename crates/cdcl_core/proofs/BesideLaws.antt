@@ -50,7 +50,7 @@ use Rattle.search_steps.specs.Hints.{AreHintsFor, IsNamedBy, hints_from}
 use Rattle.cx_base.specs.Problem.{Problem}
 use Rattle.cx_base.specs.declared.steps.LogEvent.{LogEvent}
 use Rattle.cx_trail.specs.declared.entry.Reason.TheVariants.{Row}
-use Rattle.cdcl_core.specs.Concluding.{EndsLog, IsConflictClause, IsRefutedBy}
+use Rattle.cdcl_core.specs.Concluding.{EndsByHints, EndsLog, IsConflictClause, IsRefutedBy}
 use Rattle.cdcl_core.specs.Refuting.{is_told, IsHeldBeside, IsLiteralOf, IsUntold, IsFirst, IsFirstEnding, HasRowBeside, HasVariablesOf, HasVariableOf, NoneEnds, RowGoesOn}
 use Rattle.cdcl_core.specs.Shortening.{EndsByUnits}
 use Rattle.cdcl_core.specs.declared.conflicts.LogEnd.{LogEnd}
@@ -331,6 +331,13 @@ module _ (formula : Problem) (c : SearchState) (e : State) (rows : List (List Li
 
     pub beside_none : n.failed ≡ []
     beside_none = refuted_none formula c e rows told_ st r x ends level (f.0 ++ last ∷ []) all_there (λ a. f.2 a refl) hints hinted n by
+
+  pub beside_ends_by : (first : Option EndingRow) (last : List Literal) → Follows c.trail last (IsHeldBeside c rows first) resolved [] → (r : ReasonOf) → ((d : List Literal) → IsUntold first d → d ≡ r.clause) → IsLiveOr table r.clause last
+      → Explains e.parities c.trail r → is_ending formula.constraints r.clause ≡ true → (hints : List ℤ) → AreHintsBeside table r.clause hints → EndsByHints formula c told_ (length rows) r hints
+  beside_ends_by first last f r only k x ends hints hinted = record {
+    ends = beside_ends first last f r only k x ends hints hinted;
+    none = beside_none first last f r only k x ends hints hinted;
+  }
 
   -- where each is told
   pub told_refutes : (last : List Literal) (n : ℕ) → IsSourcedBy c rows last n → Follows c.trail last (IsHeldBeside c rows None) resolved [] → (hints : List ℤ) → hints ≡ hints_from resolved ++ pos n ∷ [] → IsRefutedBy formula c hints told_

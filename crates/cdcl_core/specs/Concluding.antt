@@ -34,7 +34,9 @@ use Rattle.cdcl_search.specs.Finds.{IsClash}
 use Rattle.cdcl_search.specs.Units.{AreUnitsAnd}
 use Rattle.conflict_learn.specs.Learning.{IsAntecedent}
 use Rattle.cdcl_core.specs.Results.{RefutesIn, EndsFor, IsBoundedIn}
-use Rattle.cdcl_core.specs.Shortening.{AreShort}
+use Rattle.cdcl_core.specs.Shortening.{AreShort, EndsByUnits}
+use Rattle.xor_reason.specs.declared.reason.ReasonOf.{ReasonOf}
+use Rattle.cdcl_core.specs.declared.conflicts.LogEnd.{LogEnd}
 use Rattle.cdcl_core.specs.declared.conflicts.Conclusion.{Conclusion}
 use Rattle.cdcl_core.specs.declared.conflicts.Conflict.{Conflict}
 use Rattle.cdcl_core.specs.declared.conflicts.Conclusion.TheVariants.{Clause, Ending}
@@ -62,6 +64,11 @@ pub record EndsLog (formula : Problem) (c : SearchState) (told : Option (List Lo
   pub fails : IsFailed formula failed
   pub apart : IsFalse (clashes formula.constraints)
   pub log : IsEndedWith c.tidies formula c.conflicts failed (with_events (as_events steps) told)
+
+-- Whatever steps tell by these hints, after this many clauses of rows, that none of the literals of a row's clause is left: they end the log, and no assumed literal fails.
+pub record EndsByHints (formula : Problem) (c : SearchState) (told : Option (List LogEvent)) (rows : ℕ) (reason : ReasonOf) (hints : List ℤ) : Type 0 where
+  pub ends : (n : LogEnd) → EndsByUnits c (length formula.constraints) rows reason hints n → EndsLog formula c told n.failed n.steps.items
+  pub none : (n : LogEnd) → EndsByUnits c (length formula.constraints) rows reason hints n → n.failed ≡ []
 
 -- the clause of a conflict has an id that a step may have, and at most one clause of a row was told for it
 abbrev pub IsTold : Conflict → Type 0

@@ -1,13 +1,19 @@
 //! Conflicts at level 0: the empty clause follows, whatever is assumed.
-ghost use Rattle.std.specs.Prelude.{◌≡◌, ◌≢◌, [], filter, IfOk, OnOk, IsFalse, IsSome, IsTrue, None, Some};
+ghost use Rattle.std.specs.Prelude.{◌≡◌, ◌≢◌, pos, [], ◌∷◌, ◌++◌, filter, length, IfOk, OnOk, IsFalse, IsSome, IsTrue, None, Some};
+ghost use Rattle.std.specs.List.{Contains};
 ghost use Rattle.cx_base.specs.Assumptions.{is_ending};
+ghost use Rattle.conflict_learn.specs.declared.learning.Resolved.{Resolved};
 ghost use Rattle.conflict_learn.specs.Marks.{AreClear};
+ghost use Rattle.search_steps.specs.Hints.{hints_from};
+ghost use Rattle.cdcl_search.specs.Explaining.{Explains};
 ghost use Rattle.cdcl_search.specs.Finds.{IsClash, PropagationFinds};
+ghost use Rattle.cdcl_search.specs.Logs.{told_in};
+ghost use Rattle.cdcl_search.specs.Tells.{IsId};
 ghost use Rattle.cdcl_search.specs.declared.propagation.Found.TheVariants.{Quiet};
 ghost use Rattle.cdcl_search.specs.declared.propagation.Found.TheVariants as found;
 ghost use Rattle.xor_reason.specs.Reasons.{IsReason};
 ghost use Rattle.cdcl_core.specs.Analysing.{CanAnalyse, IsAtZero, IsFirstOf, TellsRefutation};
-ghost use Rattle.cdcl_core.specs.Concluding.{IsConflictClause, IsTold, TellsEnd};
+ghost use Rattle.cdcl_core.specs.Concluding.{EndsByHints, IsConflictClause, IsTold, TellsEnd};
 ghost use Rattle.cdcl_core.specs.Failing.{IsRefuted};
 ghost use Rattle.cdcl_core.specs.Refuting.{is_told};
 
@@ -52,6 +58,16 @@ fn told_ones(alloc: Global, resolved: &[Resolved]) -> Result<Vec<Resolved>, Allo
     Ok(told)
 }
 
+/// The hints of a conflict beside a row whose clause is not told: the ids of the resolved clauses that were, the last one's first, and then its own.
+fn hints_of_told(alloc: Global, resolved: &[Resolved], conflict: u64) -> Result<IntList, AllocError>
+    requires ids { (r : Resolved) → Contains (filter is_told resolved.now) r → IsId r.id }
+    requires conflict { IsId conflict }
+    ensures { IfOk result (λ hints. hints ≡ hints_from (filter is_told resolved.now) ++ pos conflict ∷ []) }
+{
+    let told = told_ones(alloc, resolved)?;
+    hints_of_lesson(alloc, &told, conflict)
+}
+
 /// The reason of a row that is given.
 fn reason_of(first: Option<EndingRow>) -> ReasonOf
     requires { (row : EndingRow) × (first ≡ Some row) }
@@ -89,6 +105,30 @@ impl<P: ParityEngine, L: Sink<Item = LogEvent>> Analyser<'_, '_, P, L> {
         Ok(LitList::from_vec(Vec::new(self.log.alloc)))
     }
 
+    /// Ends the log by a row's clause: chains with these hints leave none of its literals, after these clauses of rows.
+    fn end_by(
+        &mut self,
+        reason: ReasonOf,
+        hints: &IntList,
+        rows: &[LitList],
+    ) -> Result<LitList, CoreFault>
+        requires at { IsAtZero P.ParityEngine L.Sink self.old rows.now }
+        requires reason { Explains (P.state self.old.engine.now).parities self.old.state.now.trail reason }
+        requires ends { EndsByHints self.old.log.now.formula.now self.old.state.now (told_in L.Sink self.old.log.now) (length rows.now) reason hints.now }
+        ensures { TellsRefutation L.Sink self.old result self.new }
+    {
+        let count = rows.len();
+        let ending = end_of_refuted(
+            self.log.alloc,
+            self.log.formula,
+            self.state,
+            reason,
+            hints,
+            count,
+        )?;
+        tell_ending(self.log, self.state, ending)
+    }
+
     /// Ends the log by a clause that is false at level 0, where this row is the first one whose clause would end it before.
     fn refute_beside(&mut self, conflict: Conflict, row: EndingRow) -> Result<LitList, CoreFault>
         requires at { IsAtZero P.ParityEngine L.Sink self.old conflict.rows.items }
@@ -109,19 +149,8 @@ impl<P: ParityEngine, L: Sink<Item = LogEvent>> Analyser<'_, '_, P, L> {
             &mut rows,
             self.marks,
         )?;
-        let told = told_ones(self.log.alloc, &traced.resolved)?;
-        let hints = hints_of_lesson(self.log.alloc, &told, id)?;
-        let reason = reason_of(first);
-        let count = rows.len();
-        let ending = end_of_refuted(
-            self.log.alloc,
-            self.log.formula,
-            self.state,
-            reason,
-            &hints,
-            count,
-        )?;
-        tell_ending(self.log, self.state, ending)
+        let hints = hints_of_told(self.log.alloc, &traced.resolved, id)?;
+        self.end_by(reason_of(first), &hints, &rows)
     }
 
     /// Ends the log by a clause that is false at level 0. The first row whose clause would end it before may be given.
@@ -162,16 +191,7 @@ impl<P: ParityEngine, L: Sink<Item = LogEvent>> Analyser<'_, '_, P, L> {
             self.marks,
         )?;
         let hints = IntList::from_vec(hints_of_resolved(self.log.alloc, &traced.resolved)?);
-        let count = rows.len();
-        let ending = end_of_refuted(
-            self.log.alloc,
-            self.log.formula,
-            self.state,
-            reason,
-            &hints,
-            count,
-        )?;
-        tell_ending(self.log, self.state, ending)
+        self.end_by(reason, &hints, &rows)
     }
 
     /// Ends the log by a row that is not met at level 0, where no other row's clause would end it before.
