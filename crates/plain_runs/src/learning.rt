@@ -23,7 +23,7 @@ struct LogPrefix<'f> {
 }
 
 /// The literal of an integer that is not zero.
-fn lit(integer: i64) -> Lit {
+pub(crate) fn lit(integer: i64) -> Lit {
     let number = integer.unsigned_abs().clamp(1, 1_000) as u32;
     Lit::new(Var::new(number), integer < 0)
 }

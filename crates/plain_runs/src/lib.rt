@@ -18,3 +18,5 @@ mod recovering;
 mod searching;
 #[cfg(test)]
 mod settling;
+#[cfg(test)]
+mod worked;

@@ -13,5 +13,3 @@ pub mod recovered;
 pub mod settled;
 mod tables;
 mod told;
-#[cfg(test)]
-mod worked;

@@ -1,17 +1,12 @@
 //! Clauses that are fresh among others, and clauses that are not.
 ghost use Rattle.std.specs.Prelude.{◌≡◌, [], OnOk};
 
-use crate::fresh::is_fresh;
-use cx_base::{Formula, FormulaBuilder, Lit, Var};
+use crate::learning::lit;
+use cx_base::{Formula, FormulaBuilder, Lit};
+use plain_tests::fresh::is_fresh;
 use proof_rules::Live;
 use std::alloc::{AllocError, Global};
 use std::test::Fail;
-
-/// The literal of an integer that is not zero.
-fn lit(integer: i64) -> Lit {
-    let number = integer.unsigned_abs().clamp(1, 1_000) as u32;
-    Lit::new(Var::new(number), integer < 0)
-}
 
 /// Adds a clause.
 fn add(builder: &mut FormulaBuilder, integers: &[i64]) -> Result<(), AllocError>
