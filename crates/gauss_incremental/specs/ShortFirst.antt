@@ -1,5 +1,5 @@
 -- Short parities as they were given, and the engine that looks at them first.
-use Rattle.std.specs.Prelude.{◌≡◌, ◌≢◌, ◌++◌, ℕ, ◌+◌, ◌<◌, ◌≤◌, ◌^◌, Bool, true, false, cond, List, [], ◌∷◌, length, map, slice_index_or, Option, Some, None}
+use Rattle.std.specs.Prelude.{◌≡◌, ◌≢◌, ◌++◌, ℕ, ◌+◌, ◌<◌, ◌≤◌, ◌^◌, Bool, true, false, cond, List, [], ◌∷◌, length, map, replicate, slice_index_or, Option, Some, None}
 use Rattle.std.specs.List.{AllByRecursion}
 use Rattle.std.specs.List.Sorted.{IsPermutation}
 use Rattle.std.specs.Simd.Lanes.{zip2}
@@ -122,6 +122,12 @@ pub record AreShortsOf (s : State) (shorts : List Short) (named : List (Option N
   pub last : AreNamedBy s.level named
   pub clashes : (p : ℕ) (m : Naming) → slice_index_or named p None ≡ Some m → m.in_conflict ≡ true → IsToldBy p told × (m.level ≡ s.level)
   pub by : IsTold s shorts named told
+
+-- short ones of the parities, none of them named, whose rows have numbers after those of the state's rows
+pub record AreNewShorts (vars : ℕ) (parities : List (List Literal)) (s : State) (shorts : List Short) (named : List (Option Naming)) : Type 0 where
+  pub each : AllByRecursion (IsShort vars parities) shorts
+  pub few : length s.named + length shorts < 2 ^ 32
+  pub unnamed : named ≡ replicate (length shorts) None
 
 -- ---- what a look finds
 -- the parity has no name of another level, and none is said to contradict the values

@@ -9,7 +9,7 @@ ghost use Rattle.cx_base.specs.Problem.{AreWithin};
 ghost use Rattle.parity_engine.specs.State.{Reports};
 ghost use Rattle.gauss_incremental.specs.declared.short_first.Told.{Told};
 ghost use Rattle.gauss_incremental.specs.declared.short_first.Told.TheVariants.{ByMatrix};
-ghost use Rattle.gauss_incremental.specs.ShortFirst.{AreShortsOf, IsFoundShort, IsFree, IsShort, naming_of, with_shorts};
+ghost use Rattle.gauss_incremental.specs.ShortFirst.{AreNewShorts, AreShortsOf, IsFoundShort, IsFree, IsShort, naming_of, with_shorts};
 
 use crate::gates::are_gates;
 use crate::incremental::Incremental;
@@ -65,9 +65,7 @@ impl ParityEngine for ShortFirst {
 
     fn make(alloc: Global, vars: u32, parities: &ParityList) -> Result<Self, AllocError> {
         let engine = Incremental::make(alloc, vars, parities)?;
-        let shorts = kept_shorts(alloc, vars, parities, &engine)?;
-        let looks = Looks::make(alloc, vars, &shorts)?;
-        let named = RowNames::make(alloc, shorts.len())?;
+        let (shorts, looks, named) = shorts_beside(alloc, vars, parities, &engine)?;
         Ok(ShortFirst {
             alloc,
             engine,
@@ -151,6 +149,22 @@ fn kept_shorts(
     } else {
         Ok(Vec::new(alloc))
     }
+}
+
+/// The short parities that are looked at beside an engine, what their looks keep, and no name of any.
+fn shorts_beside(
+    alloc: Global,
+    vars: u32,
+    parities: &ParityList,
+    engine: &Incremental,
+) -> Result<(Vec<Short>, Looks, RowNames), AllocError>
+    requires { AllByRecursion (AreWithin vars) parities.now }
+    ensures { IfOk result (λ made. AreNewShorts vars parities.now engine.now.state made.0.items made.2) }
+{
+    let shorts = kept_shorts(alloc, vars, parities, engine)?;
+    let looks = Looks::make(alloc, vars, &shorts)?;
+    let named = RowNames::make(alloc, shorts.len())?;
+    Ok((shorts, looks, named))
 }
 
 /// The row of the short parity at a place.
