@@ -12,7 +12,7 @@ use Rattle.clause_tidy.specs.declared.outcome.TidyOf.TheVariants.{Done, Ended}
 use Rattle.parity_engine.specs.State.{State}
 use Rattle.watch_lists.specs.Anew.{AreWatchable}
 use Rattle.search_steps.specs.Holding.{AreTold}
-use Rattle.search_steps.specs.Schedule.{IsRestart, moment_after}
+use Rattle.search_steps.specs.Schedule.{IsRestart, IsRestartAt, moment_after}
 use Rattle.search_steps.specs.Search.{Search, IsSearchIn}
 use Rattle.search_steps.specs.TidyLines.{AreTidyClauses}
 use Rattle.search_steps.specs.Trail.{held, level_of}
@@ -27,6 +27,11 @@ pub record IsAtRestart (c : SearchState) : Type 0 where
   pub level : c.trail.level ≡ 0
   pub units : length c.units.items ≡ length c.trail.entries
   pub restart : IsRestart c.conflicts
+
+-- the search is at level 0, at its restart of this number
+pub record IsAtRestartOf (number : ℕ) (c : SearchState) : Type 0 where
+  pub level : c.trail.level ≡ 0
+  pub due : IsRestartAt number c.conflicts
 
 -- some search of the calculus fits what the code holds, whatever it watches
 abbrev pub StandsUnwatched : Problem → SearchState → State → Option (List LogEvent) → Type 0

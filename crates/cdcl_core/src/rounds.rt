@@ -4,7 +4,6 @@ ghost use Rattle.conflict_learn.specs.Faults.{fault_in};
 ghost use Rattle.conflict_learn.specs.Marks.{AreClear};
 ghost use Rattle.parity_engine.specs.declared.state.Mood.TheVariants.{Broken};
 ghost use Rattle.search_steps.specs.Recovering.{SettledWithRecovered};
-ghost use Rattle.search_steps.specs.Schedule.{IsRestartAt};
 ghost use Rattle.search_policy.specs.Assuming.{Contradicts};
 ghost use Rattle.cdcl_search.specs.Finds.{PropagationFinds};
 ghost use Rattle.cdcl_search.specs.Searching.{SearchReaches};
@@ -19,6 +18,7 @@ ghost use Rattle.cdcl_core.specs.Results.{AnswersTo};
 ghost use Rattle.cdcl_core.specs.Rounds.{EndsRound, HasLinesAfter, IsSameRun, IsSearching, IsSettledIn, LeavesRestart, LeavesRound};
 ghost use Rattle.cdcl_core.specs.Scheduling.{IsOneAhead, IsOnSchedule};
 ghost use Rattle.cdcl_core.specs.Shortening.{HasAllUnits};
+ghost use Rattle.cdcl_core.specs.Tidying.{IsAtRestartOf};
 ghost use Rattle.cdcl_core.specs.declared.solving.SearchOutcome.TheVariants as outcome;
 
 use crate::conflicts::{Conclusion, Conflict, clause_against, conflict_clause};
@@ -232,8 +232,7 @@ impl<P: ParityEngine, L: Sink<Item = LogEvent>> Run<'_, '_, P, L> {
         requires searches { IsSearching P.ParityEngine L.Sink self.old assumptions.old marks.old [] }
         requires unbroken { (P.state self.old.engine.now).mood ≢ Broken }
         requires tidies { self.old.state.now.tidies ≡ true }
-        requires level { self.old.state.now.trail.level ≡ 0 }
-        requires due { IsRestartAt number self.old.state.now.conflicts }
+        requires restart { IsAtRestartOf number self.old.state.now }
         requires lines { (before : ℕ) × (number ≡ before + 1) × AreTidyLines before (L.lines self.old.log.now.sink.now) }
         ensures leaves { LeavesRestart P.ParityEngine L.Sink self.old result self.new assumptions.new marks.new }
         ensures lines { HasLinesAfter number (L.lines self.new.log.now.sink.now) result }

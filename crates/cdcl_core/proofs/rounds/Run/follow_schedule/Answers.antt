@@ -47,9 +47,11 @@ tidy_at_restart-requires-clause-searches g c =
       going = c.requires.searches.going;
     }
 
-pub tidy_at_restart-requires-clause-due : goal.tidy_at_restart-requires-clause-due
-tidy_at_restart-requires-clause-due g c =
-    subst (IsRestartAt c.in-Some.number) (sym (c.restart.ensures.conflicts ∙ c.requires.on.1)) ((rw c.in-Some.is at c.next_restart.ensures.due) c.requires.on.0 c.requires.on.2)
+pub tidy_at_restart-requires-clause-restart : goal.tidy_at_restart-requires-clause-restart
+tidy_at_restart-requires-clause-restart g c = record {
+  level = c.restart.ensures.level;
+  due = subst (IsRestartAt c.in-Some.number) (sym (c.restart.ensures.conflicts ∙ c.requires.on.1)) ((rw c.in-Some.is at c.next_restart.ensures.due) c.requires.on.0 c.requires.on.2);
+}
 
 pub tidy_at_restart-requires-clause-lines : goal.tidy_at_restart-requires-clause-lines
 tidy_at_restart-requires-clause-lines g c =

@@ -13,11 +13,14 @@ use Rattle.cdcl_core.proofs.LogLineLaws.{goes_on_in, then_in}
 use Rattle.cdcl_core.proofs.LinesInTime.{are_in_time, exactly, marks_counted, settled_marks, still_tidy, tidied_in_time}
 use Rattle.cdcl_core.proofs.rounds.Run.tidy_at_restart.Goals as goal
 
+pub settle_at_restart-requires-clause-level : goal.settle_at_restart-requires-clause-level
+settle_at_restart-requires-clause-level g c = c.requires.restart.level
+
 pub reduce_where_many-requires-clause-stands : goal.reduce_where_many-requires-clause-stands
 reduce_where_many-requires-clause-stands g c = (rw c.in_default.is at c.in_ok-outcome.ensures.leaves.goes_on).stands
 
 pub reduce_where_many-requires-clause-restart : goal.reduce_where_many-requires-clause-restart
-reduce_where_many-requires-clause-restart g c = subst IsRestart (sym (rw c.in_default.is at c.in_ok-outcome.ensures.leaves.conflicts)) (c.args.number, c.requires.due)
+reduce_where_many-requires-clause-restart g c = subst IsRestart (sym (rw c.in_default.is at c.in_ok-outcome.ensures.leaves.conflicts)) (c.args.number, c.requires.restart.due)
 
 pub reduce_where_many-requires-clause-going : goal.reduce_where_many-requires-clause-going
 reduce_where_many-requires-clause-going g c = c.in_ok-outcome.ensures.log.failed ∙ c.requires.searches.going
@@ -33,7 +36,7 @@ tidy_clauses-requires-clause-restart g c =
       tidies = reduced.searches_on.tidies ∙ (rw c.in_default.is at leaves.tidies) ∙ c.requires.tidies;
       level = reduced.level ∙ (rw c.in_default.is at c.in_ok-outcome.ensures.level);
       units = c.in_ok-reduce_where_many.ensures.units (rw c.in_default.is at c.in_ok-outcome.ensures.units);
-      restart = subst IsRestart (sym (reduced.searches_on.conflicts ∙ (rw c.in_default.is at leaves.conflicts))) (c.args.number, c.requires.due);
+      restart = subst IsRestart (sym (reduced.searches_on.conflicts ∙ (rw c.in_default.is at leaves.conflicts))) (c.args.number, c.requires.restart.due);
     }
 
 pub tidy_clauses-requires-clause-going : goal.tidy_clauses-requires-clause-going
@@ -170,6 +173,6 @@ returns g c =
         same = record { log = same.log; state = same.state; engine = same.engine; budget = same.budget };
       };
       lines = subst (AreTidyLines c.args.number) (sym told_on.told)
-          (tidied_in_time now.formula.now state e (g.L.Sink.lines now.sink.now) told c.args.number c.requires.lines.0 (g.met.L.Sink.are_items now.sink.now) stands tidied c.requires.lines.1 (subst (IsRestartAt c.args.number) (sym conflicts) c.requires.due) before);
+          (tidied_in_time now.formula.now state e (g.L.Sink.lines now.sink.now) told c.args.number c.requires.lines.0 (g.met.L.Sink.are_items now.sink.now) stands tidied c.requires.lines.1 (subst (IsRestartAt c.args.number) (sym conflicts) c.requires.restart.due) before);
       log = then_in g.L.Sink g.met.L.Sink.keeps_on g.met.L.Sink.keeps_else_on true old.log.now now end None (goes_on_in g.L.Sink g.met.L.Sink.items_keep_else true old.log.now now None log) told_on.log;
     }
