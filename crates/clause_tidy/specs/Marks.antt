@@ -1,5 +1,5 @@
 -- Marks of literals.
-use Rattle.std.specs.Prelude.{◌≡◌, ℕ, ◌<◌, Bool, false, List, length, get_or}
+use Rattle.std.specs.Prelude.{◌≡◌, ℕ, ◌*◌, ◌<◌, Bool, false, List, length, get_or}
 use Rattle.std.specs.List.{All}
 use Rattle.cx_base.specs.Literals.{Literal, code_of}
 use Rattle.cx_semantics.specs.Chain.{has_literal}
@@ -14,6 +14,11 @@ AreMarksOf marks lits = (l : Literal) → is_marked marks l ≡ has_literal lits
 
 abbrev pub AreClear : List Bool → Type 0
 AreClear marks = (l : Literal) → is_marked marks l ≡ false
+
+-- there is a mark for each of the two literals of so many variables, and none is set
+pub record AreClearFor (variables : ℕ) (marks : List Bool) : Type 0 where
+  pub long : length marks ≡ 2 * variables
+  pub clear : AreClear marks
 
 -- there is room for marks of these literals
 abbrev pub HaveRoom : List Bool → List Literal → Type 0

@@ -1,10 +1,10 @@
 //! The look for clauses of which one bears on another. Each old clause is looked at as a part of new ones alone, then each new
 //! one as a part of all, the shortest ones first.
-ghost use Rattle.std.specs.Prelude.{◌≡◌, ◌+◌, ◌*◌, ◌^◌, ◌<◌, ◌≤◌, ℕ, [], length, IfOk, OnOk, MatchBool, MatchOption};
+ghost use Rattle.std.specs.Prelude.{◌≡◌, ◌+◌, ◌^◌, ◌<◌, ◌≤◌, ℕ, [], length, IfOk, OnOk, MatchBool, MatchOption};
 ghost use Rattle.cx_base.specs.Problem.{AreWithin};
 ghost use Rattle.clause_arena.specs.Clauses.{IsLive, literals_at};
 ghost use Rattle.clause_tidy.specs.Indexes.{IsIndexed, AreKnown};
-ghost use Rattle.clause_tidy.specs.Marks.{AreClear};
+ghost use Rattle.clause_tidy.specs.Marks.{AreClearFor};
 ghost use Rattle.clause_tidy.specs.Pairs.{IsPair, NoneBears};
 ghost use Rattle.clause_tidy.specs.Rooms.{HasMore, IsWaiting, IsRoomFor, IsRoomBefore, KeepsLook, looks_to_come};
 ghost use Rattle.tidy_rules.specs.Below.{TidiedBelow};
@@ -66,8 +66,7 @@ impl TidyRoom {
         requires { vars < 2 ^ 31 }
         ensures lists { IfOk result (λ room. length room.index.lists ≡ vars + 1) }
         ensures signatures { IfOk result (λ room. room.index.signatures.items ≡ []) }
-        ensures marks { IfOk result (λ room. length room.look.marks.items ≡ 2 * length room.index.lists) }
-        ensures clear { IfOk result (λ room. AreClear room.look.marks.items) }
+        ensures marks { IfOk result (λ room. AreClearFor (length room.index.lists) room.look.marks.items) }
         ensures first { IfOk result (λ room. room.index.first ≡ from) }
         ensures from { IfOk result (λ room. (room.from ≡ from) × (room.passed ≡ 0)) }
         ensures place { IfOk result (λ room. room.place ≡ 0) }

@@ -23,8 +23,8 @@ returns c =
       indexed = fill.indexed;
       first = omega (arith, first, from);
       from = omega (arith, from, within);
-      marks = ap (λ (l : Look). length l.marks.items) keeps.look ∙ made.marks ∙ ap (λ (n : ℕ). 2 * n) (sym fill.lists);
-      clear = subst (λ (l : Look). AreClear l.marks.items) (sym keeps.look) made.clear;
+      marks = ap (λ (l : Look). length l.marks.items) keeps.look ∙ made.marks.long ∙ ap (λ (n : ℕ). 2 * n) (sym fill.lists);
+      clear = subst (λ (l : Look). AreClear l.marks.items) (sym keeps.look) made.marks.clear;
       place = omega (arith, place);
       due = all_due a new place (keeps.passed ∙ made.from.1) (subst (λ n. TidiedBelow a n) (sym from) c.requires.tidy) (λ p past live. c.sort.ensures p (fill.waits p (omega (arith, past, same)) live));
     }
