@@ -1,0 +1,7 @@
+use Rattle.std.proofs.Common.{◌*◌}
+use Rattle.gf2_rows.specs.Bits.{bit_of}
+use Rattle.gf2_rows.specs.Few.{laid_out, FirstFrom}
+use Rattle.gf2_rows.proofs.few.FewWords.next_one.Given as goal
+
+abbrev pub invariant-loop-i : goal.invariant-loop-i
+invariant-loop-i l = FirstFrom (bit_of (laid_out l.self-inside.len l.i l.self-inside.places l.self-inside.words)) l.from (64 * l.self-inside.len) l.best

@@ -1,0 +1,19 @@
+use Rattle.std.proofs.Common.{◌≡◌, ◌<◌, ◌∙◌, sym, ap, arith, length, get_or}
+use Rattle.gf2_rows.specs.Heads.{blank, width_at}
+use Rattle.gf2_rows.proofs.Laying.{length-rows, element}
+use Rattle.gf2_rows.proofs.table.WordTable.row.Goals as goal
+
+pub part-requires : goal.part-requires
+part-requires c =
+    let heads = c.self.inside.heads.items in
+    let pool = c.self.inside.pool.items in
+    let head = c.index-head.result.now in
+    let row = c.args.row in
+    let count : length c.args.self.now ≡ length heads = sym (ap length c.self.view_is) ∙ length-rows pool heads in
+    let lt : row < length heads = omega arith in
+    let at : get_or heads row blank ≡ head = element heads row blank head lt ∙ sym c.index-head.ensures in
+    let within = c.self.invariant.within row c.in-Some.start (ap (λ h. h.start) at ∙ c.in-Some.is) in
+    let width : width_at heads row ≡ length (head.few) = ap (λ h. length (h.few)) at in
+    let many = c.len.ensures.len in
+    let all = ap length c.deref.ensures.value in
+    omega arith

@@ -1,0 +1,139 @@
+//! Rows of words that are kept by their few words where they can be.
+ghost use Rattle.std.specs.Prelude.{◌≡◌, ℕ, ◌*◌, ◌<◌, ◌≤◌, ◌^◌, if◌then◌else◌, nat_eq, not, length, map, replicate, slice_index, slice_set, IfOk};
+ghost use Rattle.std.specs.Int.RustNames.{bit_xor};
+ghost use Rattle.std.specs.Simd.Lanes.{zip2};
+ghost use Rattle.cx_base.specs.Literals.{differ};
+ghost use Rattle.gf2_rows.specs.Bits.{bits_of, bit_of};
+ghost use Rattle.gf2_rows.specs.Tables.{words_at, IsChangedAt, IsZeroOutside};
+
+use crate::head::Head;
+use crate::pool::{add_part, lay_rows, part, total_of, whole_start};
+use crate::word_row::WordRow;
+use std::alloc::{AllocError, Global};
+use std::marker::Model;
+
+/// Rows of words, each of a width of its own.
+///
+/// Contracts see the words of each row, laid out whole. A row of more than 8 words takes the memory of 8 until more of them
+/// are not zero. Then it is laid out whole, in memory that was taken when the table was made, and stays so.
+#[derive(Drop)]
+pub struct WordTable {
+    heads: Vec<Head>,
+    /// The words of the rows that are laid out whole, with capacity for those of all the others.
+    pool: Vec<u64>,
+}
+
+impl Model for WordTable {
+    ghost use Rattle.std.specs.Prelude.{List, ℕ, vec_capacity};
+
+    ghost Value = { List (List ℕ) };
+
+    ghost use Rattle.gf2_rows.specs.Heads.{rows_in, AreRows};
+
+    ghost view = { λ t. rows_in t.pool.items t.heads.items };
+
+    ghost invariant = { λ t. AreRows (vec_capacity t.pool) t.pool.items t.heads.items };
+}
+
+impl WordTable {
+    /// A table of zero rows of these widths. It takes all the memory that the rows may ever need.
+    pub fn make(alloc: Global, widths: &[usize]) -> Result<WordTable, AllocError>
+        requires few { (i : ℕ) → i < length widths.now → slice_index widths.now i < 2 ^ 32 }
+        ensures { IfOk result (λ t. t ≡ map (λ w. replicate w 0) widths.now) }
+    {
+        let total = total_of(widths)?;
+        let mut heads = Vec::with_capacity(alloc, widths.len())?;
+        let mut pool = Vec::with_capacity(alloc, total)?;
+        lay_rows(widths, &mut heads, &mut pool);
+        Ok(WordTable { heads, pool })
+    }
+
+    /// How many rows it has.
+    #[inline(always)]
+    pub fn rows(&self) -> usize
+        ensures { result ≡ length self.now }
+    {
+        self.heads.len()
+    }
+
+    /// A row.
+    #[inline]
+    pub fn row(&self, row: usize) -> WordRow<'_>
+        requires { row < length self.now }
+        ensures { result ≡ words_at self.now row }
+    {
+        let head = &self.heads[row];
+        match head.start {
+            Some(start) => WordRow::whole(part(&self.pool, start, head.few.len())),
+            None => WordRow::few(&head.few),
+        }
+    }
+
+    /// Adds to one word of a row.
+    #[inline]
+    fn add_word(&mut self, row: usize, place: usize, word: u64)
+        requires row_in { row < length self.old }
+        requires place_in { place < length (words_at self.old row) }
+        ensures { self.new ≡ slice_set self.old row (slice_set (words_at self.old row) place (bit_xor (slice_index (words_at self.old row) place) word)) }
+    {
+        let head = &mut self.heads[row];
+        if head.add_word(place, word) {
+            return;
+        }
+        let start = whole_start(&mut self.heads, &mut self.pool, row);
+        self.pool[start + place] ^= word;
+    }
+
+    /// Turns the bit at `k` of a row over.
+    #[inline]
+    pub fn flip(&mut self, row: usize, k: u64)
+        requires row_in { row < length self.old }
+        requires bit_in { k < 64 * length (words_at self.old row) }
+        ensures changed { IsChangedAt row self.old self.new }
+        ensures bits { bits_of (words_at self.new row) ≡ slice_set (bits_of (words_at self.old row)) k (not (bit_of (words_at self.old row) k)) }
+    {
+        self.add_word(row, (k / 64) as usize, 1 << (k % 64));
+    }
+
+    /// Sets the bit at `k` of a row to `value`.
+    #[inline]
+    pub fn put(&mut self, row: usize, k: u64, value: bool)
+        requires row_in { row < length self.old }
+        requires bit_in { k < 64 * length (words_at self.old row) }
+        ensures changed { IsChangedAt row self.old self.new }
+        ensures bits { (j : ℕ) → bit_of (words_at self.new row) j ≡ (if nat_eq j k then value else bit_of (words_at self.old row) j) }
+    {
+        if self.row(row).bit(k) != value {
+            self.flip(row, k);
+        }
+    }
+
+    /// Adds words to a row, position by position modulo two.
+    #[inline]
+    pub fn add(&mut self, row: usize, words: &[u64])
+        requires row_in { row < length self.old }
+        requires same { length words.now ≡ length (words_at self.old row) }
+        ensures changed { IsChangedAt row self.old self.new }
+        ensures sum { bits_of (words_at self.new row) ≡ zip2 differ (bits_of (words_at self.old row)) (bits_of words.now) }
+    {
+        self.add_span(row, words, 0, words.len());
+    }
+
+    /// Adds words that are zero but those from `low` up to `high`. Its time is in these.
+    #[inline]
+    pub fn add_span(&mut self, row: usize, words: &[u64], low: usize, high: usize)
+        requires row_in { row < length self.old }
+        requires same { length words.now ≡ length (words_at self.old row) }
+        requires span { IsZeroOutside words.now low high }
+        ensures changed { IsChangedAt row self.old self.new }
+        ensures sum { bits_of (words_at self.new row) ≡ zip2 differ (bits_of (words_at self.old row)) (bits_of words.now) }
+    {
+        let head = &mut self.heads[row];
+        let from = head.add_words(words, low, high);
+        if from >= high {
+            return;
+        }
+        let start = whole_start(&mut self.heads, &mut self.pool, row);
+        add_part(&mut self.pool, start + from, &words[from..high]);
+    }
+}
