@@ -17,3 +17,5 @@ mod pivots;
 mod reasons;
 #[cfg(test)]
 mod rows;
+#[cfg(test)]
+mod tables;

@@ -1,0 +1,221 @@
+//! Rows of a table, kept by few words and whole, beside plain slices.
+ghost use Rattle.std.specs.Prelude.{◌<◌};
+
+use gf2_rows::{WordRow, WordTable, plain};
+use std::alloc::{AllocError, Global};
+use std::test::Fail;
+
+/// Whether the bit at `k` is set.
+fn is_set(words: &[u64], k: usize) -> bool {
+    k / 64 < words.len() && (words[k / 64] >> (k % 64)) & 1 == 1
+}
+
+/// The first place from `from` on that is set, found bit by bit.
+fn next_set(words: &[u64], from: usize) -> Option<u64> {
+    for k in from..1300 {
+        if is_set(words, k) {
+            return Some(k as u64);
+        }
+    }
+    None
+}
+
+/// Whether searches from each of the first 1,300 places find what is found bit by bit.
+fn find_the_same(row: &WordRow, words: &[u64]) -> bool {
+    for from in 0..1300 {
+        let place = from as u64;
+        if row.len() < 100
+            && place <= 64 * row.len() as u64
+            && row.next_one(place) != next_set(words, from)
+        {
+            return false;
+        }
+    }
+    true
+}
+
+/// Whether each bit is the slice's.
+fn have_the_same(row: &WordRow, words: &[u64]) -> bool {
+    for k in 0..1300 {
+        let place = k as u64;
+        if row.len() < 100 && place < 64 * row.len() as u64 && row.bit(place) != is_set(words, k) {
+            return false;
+        }
+    }
+    true
+}
+
+/// Whether searches outside of a mask find what the plain loop finds.
+fn find_the_same_outside(row: &WordRow, words: &[u64], mask: &[u64], skip: Option<u64>) -> bool {
+    row.len() == words.len()
+        && mask.len() == words.len()
+        && words.len() < 100
+        && row.first_outside(mask, skip) == plain::first_outside(words, mask, skip)
+        && row.next_outside(mask, 0) == plain::first_outside(words, mask, None)
+        && row.outside_near(mask, skip, 3).is_some()
+            == plain::first_outside(words, mask, skip).is_some()
+}
+
+/// Whether the row's words are written as the slice has them.
+fn copies(alloc: Global, row: &WordRow, words: &[u64]) -> Result<bool, AllocError> {
+    let mut copy = Vec::new(alloc);
+    for _ in 0..words.len() {
+        copy.push(u64::MAX)?;
+    }
+    if copy.len() != row.len() {
+        return Ok(false);
+    }
+    row.copy_to(&mut copy);
+    Ok(copy.as_slice() == words)
+}
+
+/// Whether all that is read of the row is as the slice has it.
+fn agree(alloc: Global, row: &WordRow, words: &[u64], mask: &[u64]) -> Result<bool, AllocError> {
+    Ok(
+        row.len() == words.len()
+            && mask.len() == words.len()
+            && words.len() < 100
+            && row.is_empty() == words.is_empty()
+            && row.ones() == plain::ones(words)
+            && row.parity_and(mask) == plain::parity_and(words, mask)
+            && have_the_same(row, words)
+            && find_the_same(row, words)
+            && find_the_same_outside(row, words, mask, None)
+            && find_the_same_outside(row, words, mask, Some(67))
+            && copies(alloc, row, words)?,
+    )
+}
+
+/// Whether the row of the table agrees with the slice, also as a whole row.
+fn row_agrees(
+    alloc: Global,
+    table: &WordTable,
+    row: usize,
+    words: &[u64],
+    mask: &[u64],
+) -> Result<bool, AllocError> {
+    Ok(
+        row < table.rows()
+            && agree(alloc, &table.row(row), words, mask)?
+            && agree(alloc, &WordRow::whole(words), words, mask)?,
+    )
+}
+
+/// Turns a bit over in the row and in the slice.
+fn flip_both(table: &mut WordTable, row: usize, words: &mut [u64], k: usize) {
+    if row < table.rows() && table.row(row).len() < 100 && k < 64 * table.row(row).len() {
+        table.flip(row, k as u64);
+    }
+    if k / 64 < words.len() {
+        words[k / 64] ^= 1 << (k % 64);
+    }
+}
+
+/// Sets a bit in the row and in the slice.
+fn put_both(table: &mut WordTable, row: usize, words: &mut [u64], k: usize) {
+    if row < table.rows() && table.row(row).len() < 100 && k < 64 * table.row(row).len() {
+        table.put(row, k as u64, true);
+    }
+    if k / 64 < words.len() {
+        words[k / 64] |= 1 << (k % 64);
+    }
+}
+
+/// Adds words to the row and to the slice.
+fn add_both(table: &mut WordTable, row: usize, words: &mut [u64], other: &[u64]) {
+    if row < table.rows() && table.row(row).len() == other.len() && words.len() == other.len() {
+        table.add(row, other);
+        plain::add_into(words, other);
+    }
+}
+
+/// Places of a row of 20 words. The last but three is in the ninth word that is not zero, and one word becomes zero before.
+const PLACES: [usize; 15] = [
+    1217, 5, 450, 1279, 64, 700, 389, 833, 5, 960, 127, 577, 1100, 577, 3,
+];
+
+/// A row of words in which some bits are set.
+fn words_with(alloc: Global, len: usize, word: u64, every: usize) -> Result<Vec<u64>, AllocError> {
+    let mut words = Vec::new(alloc);
+    for i in 0..len {
+        words.push(if every != 0 && i % every == 1 {
+            word
+        } else {
+            0
+        })?;
+    }
+    Ok(words)
+}
+
+/// Whether the row agrees with a slice after each of the turns, within so many words.
+fn turns_agree(alloc: Global, row: usize, len: usize) -> Result<bool, AllocError>
+    requires { len < 100 }
+{
+    let mut table = WordTable::make(alloc, &[3, 20, 12])?;
+    let mut words = words_with(alloc, len, 0, 0)?;
+    let mask = words_with(alloc, len, 0xF0F0_F0F0_F0F0_F0F2, 3)?;
+    for k in PLACES {
+        if len != 0 {
+            flip_both(&mut table, row, &mut words, k % (64 * len));
+        }
+        if !row_agrees(alloc, &table, row, &words, &mask)? {
+            return Ok(false);
+        }
+    }
+    Ok(true)
+}
+
+/// Whether the row agrees with a slice after sums, of rows of few words and of all, and after bits that are set.
+fn sums_agree(alloc: Global, row: usize, len: usize) -> Result<bool, AllocError> {
+    let mut table = WordTable::make(alloc, &[3, 20, 12])?;
+    let mut words = words_with(alloc, len, 0, 0)?;
+    for every in [7, 9, 7, 5, 2] {
+        let other = words_with(alloc, len, 0x8000_0000_0000_0401, every)?;
+        add_both(&mut table, row, &mut words, &other);
+        put_both(&mut table, row, &mut words, 64 + every % 64);
+        if !row_agrees(alloc, &table, row, &words, &other)? {
+            return Ok(false);
+        }
+    }
+    Ok(true)
+}
+
+#[test]
+fn turns_are_those_of_slices(rt: HostRuntime) -> Result<(), Fail> {
+    assert!(rt; turns_agree(rt.alloc(), 0, 3)?);
+    assert!(rt; turns_agree(rt.alloc(), 1, 20)?);
+    assert!(rt; turns_agree(rt.alloc(), 2, 12)?);
+    Ok(())
+}
+
+#[test]
+fn sums_are_those_of_slices(rt: HostRuntime) -> Result<(), Fail> {
+    assert!(rt; sums_agree(rt.alloc(), 0, 3)?);
+    assert!(rt; sums_agree(rt.alloc(), 1, 20)?);
+    assert!(rt; sums_agree(rt.alloc(), 2, 12)?);
+    Ok(())
+}
+
+/// Whether rows that are laid out whole one after another, with one between that stays as it is, keep their words.
+fn rows_stay_apart(alloc: Global) -> Result<bool, AllocError> {
+    let mut table = WordTable::make(alloc, &[20, 20, 20])?;
+    let mut first = words_with(alloc, 20, 0, 0)?;
+    let mut last = words_with(alloc, 20, 0, 0)?;
+    let none = words_with(alloc, 20, 0, 0)?;
+    let mask = words_with(alloc, 20, u64::MAX, 2)?;
+    for k in PLACES {
+        flip_both(&mut table, 2, &mut last, k);
+        flip_both(&mut table, 0, &mut first, 1279 - k.min(1279));
+    }
+    Ok(
+        row_agrees(alloc, &table, 0, &first, &mask)?
+            && row_agrees(alloc, &table, 1, &none, &mask)?
+            && row_agrees(alloc, &table, 2, &last, &mask)?,
+    )
+}
+
+#[test]
+fn rows_keep_their_words(rt: HostRuntime) -> Result<(), Fail> {
+    assert!(rt; rows_stay_apart(rt.alloc())?);
+    Ok(())
+}
