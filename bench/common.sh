@@ -5,6 +5,8 @@ program=$here/../crates/cxsat/out/cxsat
 examples=$here/../examples
 work=$(mktemp -d)
 trap 'rm -rf "$work"' EXIT
+# `cryptominisat5` with its bounds on matrices lifted.
+lifted=(--maxmatrixrows 1000000 --maxmatrixcols 1000000 --maxnummatrices 1000000)
 
 # Ends the script with 2 where one of these commands is not there.
 need() {
@@ -31,10 +33,11 @@ answered() {
     grep -qx "$1" "$work/answer" || { echo "$(basename "$0"): wanted '$1', got:" >&2; head -n 5 "$work/answer" >&2; exit 1; }
 }
 
-# A formula of a family into $work/formula: by which script of make/ (awk: instance.awk, python: families.py), its kind, size and seed.
+# A formula of a family into $work/formula: by which script of make/ (awk: instance.awk, x: its parities as x-lines, python:
+# families.py), its kind, size and seed.
 draw() {
     case $1 in
-        awk) awk -v kind="$2" -v size="$3" -v seed="$4" -f "$here/make/instance.awk" ;;
+        awk | x) awk -v kind="$2" -v size="$3" -v seed="$4" -v form="$1" -f "$here/make/instance.awk" ;;
         python) "$here/make/families.py" "$2" "$3" "$4" ;;
     esac > "$work/formula"
 }

@@ -85,7 +85,7 @@ measure() {
     what="$family $size (status $status)"
     [ "$times" = 1 ] || own_counted=$(millions "$program" solve "$work/formula")
     beside cryptominisat5
-    beside 'cryptominisat5, bounds lifted' --maxmatrixrows 100000 --maxmatrixcols 100000 --maxnummatrices 100000
+    beside 'cryptominisat5, bounds lifted' "${lifted[@]}"
 }
 
 # The same parities as clauses and as x-lines, by the instructions of `solve`: no conflict is counted for either.
