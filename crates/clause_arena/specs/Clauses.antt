@@ -59,3 +59,8 @@ kept (Some c) = Some (record c { learned = false })
 abbrev pub renamed : ℕ → Option Stored → Option Stored
 renamed id None = None
 renamed id (Some c) = Some (record c { id = id })
+
+-- the clause with another lbd
+abbrev pub with_lbd : ℕ → Option Stored → Option Stored
+with_lbd lbd None = None
+with_lbd lbd (Some c) = Some (record c { lbd = lbd })

@@ -1,6 +1,6 @@
 //! The arena.
 ghost use Rattle.std.specs.Prelude.{◌≡◌, ◌+◌, ◌-◌, ◌<◌, ◌≤◌, ◌^◌, ◌++◌, ◌∷◌, [], ◌↔◌, length, None, Some, slice_index, slice_set, IfOk, OnOk, OnErr, IsOk, IsTrue, min};
-ghost use Rattle.clause_arena.specs.Clauses.{ArenaState, clause_at, literals_at, id_at, lbd_at, learned_at, kept, renamed, IsLive};
+ghost use Rattle.clause_arena.specs.Clauses.{ArenaState, clause_at, literals_at, id_at, lbd_at, learned_at, kept, renamed, with_lbd, IsLive};
 ghost use Rattle.std.specs.Prelude.{vec_len, vec_capacity};
 ghost use Rattle.clause_arena.specs.Compact.{IsRenamed};
 ghost use Rattle.clause_arena.specs.Heads.{part_at, RiseTo};
@@ -135,7 +135,7 @@ impl Arena {
         self.heads[reference.place() as usize].id
     }
 
-    /// The number of levels that its literals had when it was learned.
+    /// The number of levels that its literals had when it was learned, or the one that it was given since.
     pub fn lbd(&self, reference: ClauseRef) -> u32
         requires { IsLive self.now reference }
         ensures { result ≡ lbd_at self.now reference }
@@ -228,6 +228,15 @@ impl Arena {
     {
         let place = reference.place() as usize;
         self.heads[place].id = id;
+    }
+
+    /// Gives a clause another lbd. Nothing else changes, and no memory is taken.
+    pub fn set_lbd(&mut self, reference: ClauseRef, lbd: u32)
+        requires { IsLive self.old reference }
+        ensures { self.new ≡ record self.old { clauses = slice_set self.old.clauses reference (with_lbd lbd (clause_at self.old reference)) } }
+    {
+        let place = reference.place() as usize;
+        self.heads[place].lbd = lbd;
     }
 
     /// Lets go of what was removed. The clauses that are left have new references, from 0 on and in the order of the old ones.
