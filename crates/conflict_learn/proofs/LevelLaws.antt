@@ -24,7 +24,7 @@ pub record Seen (done : List ℕ) (back count last index : ℕ) : Type 0 where
 pub nothing_seen : Seen [] 0 0 0 0
 nothing_seen = record { index_is = refl; count_is = refl; back_is = refl; least = tt; last_in = λ h. absurd (h refl); few = omega arith }
 
-same_but : (ks : List ℕ) (x k : ℕ) → (k ≡ x → ⊥) → has_place (ks ++ x ∷ []) k ≡ has_place ks k
+pub same_but : (ks : List ℕ) (x k : ℕ) → (k ≡ x → ⊥) → has_place (ks ++ x ∷ []) k ≡ has_place ks k
 same_but ks x k apart = by_cases (has_place ks k) (λ f. place_kept ks x k f ∙ sym f) (λ f. by_cases (has_place (ks ++ x ∷ []) k)
     (λ g. elim (place_pushed ks x k g) [ inl r ↦ absurd (true≢false (sym r ∙ f)) | inr r ↦ absurd (apart r) ])
     (λ g. g ∙ sym f))
@@ -34,7 +34,7 @@ grow true k n xs ys r = r
 grow false k n xs ys r = omega (arith, r)
 
 -- one more number is counted where it is not there yet
-distinct_push_new : (done : List ℕ) (x : ℕ) → has_place done x ≡ false → length (distinct (done ++ x ∷ [])) ≡ length (distinct done) + 1
+pub distinct_push_new : (done : List ℕ) (x : ℕ) → has_place done x ≡ false → length (distinct (done ++ x ∷ [])) ≡ length (distinct done) + 1
 distinct_push_new [] x h = omega arith
 distinct_push_new (k ∷ ks) x h =
     let not_head : k ≡ x → ⊥ = λ e. true≢false (sym (ap (has_place (k ∷ ks)) (sym e) ∙ place_here k ks) ∙ h) in
@@ -42,7 +42,7 @@ distinct_push_new (k ∷ ks) x h =
     ap (λ b. length (cond b (distinct (ks ++ x ∷ [])) (k ∷ distinct (ks ++ x ∷ [])))) (same_but ks x k not_head)
     ∙ grow (has_place ks k) k 1 (distinct (ks ++ x ∷ [])) (distinct ks) (distinct_push_new ks x not_tail)
 
-distinct_push_old : (done : List ℕ) (x : ℕ) → has_place done x ≡ true → length (distinct (done ++ x ∷ [])) ≡ length (distinct done)
+pub distinct_push_old : (done : List ℕ) (x : ℕ) → has_place done x ≡ true → length (distinct (done ++ x ∷ [])) ≡ length (distinct done)
 distinct_push_old [] x h = absurd (true≢false (sym h))
 distinct_push_old (k ∷ ks) x h = by_cases (nat_eq k x)
     (λ e.

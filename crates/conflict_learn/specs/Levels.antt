@@ -1,7 +1,8 @@
 -- The levels of a clause's literals.
-use Rattle.std.specs.Prelude.{◌≡◌, ℕ, ◌<◌, ◌≤◌, List, [], ◌∷◌, map, length, if◌then◌else◌, ⊤}
+use Rattle.std.specs.Prelude.{◌≡◌, ◌==◌, ℕ, ◌<◌, ◌≤◌, List, [], ◌∷◌, map, length, if◌then◌else◌, ⊤}
 use Rattle.std.specs.List.{AllByRecursion}
 use Rattle.cx_base.specs.Literals.{Literal}
+use Rattle.cx_trail.specs.declared.entry.Entry.{Entry}
 use Rattle.cx_trail.specs.Sequence.{TrailState}
 use Rattle.conflict_learn.specs.declared.learning.Resolved.{Resolved}
 use Rattle.conflict_learn.specs.Learning.{level_at, negated_at, has_place, IsLearned}
@@ -13,6 +14,15 @@ distinct (k ∷ ks) = if has_place ks k then distinct ks else k ∷ distinct ks
 
 abbrev pub levels_at : TrailState → List ℕ → List ℕ
 levels_at trail places = map (level_at trail) places
+
+-- the level of the variable's entry; 0 where there is none
+abbrev pub level_in : List Entry → ℕ → ℕ
+level_in [] v = 0
+level_in (e ∷ es) v = if e.literal.variable == v then e.level else level_in es v
+
+-- the levels of the literals' variables
+abbrev pub levels_in : TrailState → List Literal → List ℕ
+levels_in trail lits = map (λ l. level_in trail.entries l.variable) lits
 
 -- the second number; 0 where there is none
 abbrev pub second : List ℕ → ℕ

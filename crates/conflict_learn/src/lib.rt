@@ -14,4 +14,5 @@ pub use antecedents::Antecedents;
 pub use fault::CoreFault;
 pub use final_analysis::{Final, analyse_final};
 pub use learning::{Learned, Resolved, analyse};
+pub use levels::count_levels;
 pub use marks::Marks;

@@ -1,4 +1,4 @@
-//! Marks of variables.
+//! Marks of variables, or of levels.
 ghost use Rattle.std.specs.Prelude.{◌≡◌, ◌<◌, ℕ, length, true, false, set, OnOk};
 ghost use Rattle.conflict_learn.specs.Marks.{is_marked, AreClear};
 
@@ -6,7 +6,7 @@ use cx_base::Var;
 use std::alloc::{AllocError, Global};
 use std::marker::Model;
 
-/// Marks of variables.
+/// Marks of variables, or of levels, of which there are no more.
 ///
 /// One table serves all analyses of a search: each finds it clear and leaves it clear, in the time of what it marked.
 /// It grows to the number of variables once.
@@ -64,5 +64,24 @@ impl Marks {
         ensures { self.new ≡ set self.old variable false }
     {
         self.marks[variable.number() as usize] = false;
+    }
+
+    // Marks the level. The result is whether it was marked.
+    pub(crate) fn meet(&mut self, level: u32) -> bool
+        requires { level < length self.old }
+        ensures was { result ≡ is_marked self.old level }
+        ensures marks { self.new ≡ set self.old level true }
+    {
+        let was = self.marks[level as usize];
+        self.marks[level as usize] = true;
+        was
+    }
+
+    // Takes the level's mark away.
+    pub(crate) fn leave(&mut self, level: u32)
+        requires { level < length self.old }
+        ensures { self.new ≡ set self.old level false }
+    {
+        self.marks[level as usize] = false;
     }
 }
