@@ -53,3 +53,5 @@ pub mod TautologyLaws
 pub mod LogLineLaws
 pub mod CalmLines
 pub mod LinesInTime
+pub mod GradedClauses
+pub mod GradedTies

@@ -1,4 +1,5 @@
 -- What a conflict teaches, and what the sink is told of it.
+use Rattle.std.specs.List.{All}
 use Rattle.std.specs.Prelude.{◌≡◌, ℕ, ◌<◌, ◌≤◌, ◌^◌, ℤ, List, [], ◌∷◌, length, Option, IsTrue, IsFalse}
 use Rattle.cx_base.specs.Literals.{Literal}
 use Rattle.cx_base.specs.Assumptions.{is_ending}
@@ -7,11 +8,12 @@ use Rattle.cx_base.specs.declared.steps.LogEvent.{LogEvent}
 use Rattle.cx_base.specs.Integers.{integers_of, literals}
 use Rattle.cx_semantics.specs.Chain.{has_literal}
 use Rattle.cx_semantics.specs.Ids.{highest_id}
-use Rattle.cx_trail.specs.Sequence.{TrailState, IsTrueIn}
+use Rattle.cx_trail.specs.Sequence.{TrailState, IsTrueIn, IsAssignedIn}
 use Rattle.conflict_learn.specs.Learning.{negated_at, literals_of, IsFalling}
 use Rattle.conflict_learn.specs.Levels.{levels_at, second, Teaches}
 use Rattle.conflict_learn.specs.Touching.{AreTouched}
 use Rattle.conflict_learn.specs.declared.learning.Learned.{Learned}
+use Rattle.conflict_learn.specs.declared.learning.Resolved.{Resolved}
 use Rattle.parity_engine.specs.State.{State}
 use Rattle.search_policy.specs.Assuming.{AreApart}
 use Rattle.search_steps.specs.Hints.{AreHintsFor}
@@ -56,6 +58,11 @@ pub record Learns (formula : Problem) (c : SearchState) (e : State) (lits : List
   pub hints : List ℤ
   pub right : AreHintsFor search.moment.tables.clauses lits hints
   pub told_is : AreTold told (after_round search c.next (integers_of lits) hints back taught.first).events
+
+-- the variables of the resolved literals have values, and the touched ones are theirs and the learned clause's
+pub record AreUsed (trail : TrailState) (learned : Learned) : Type 0 where
+  pub assigned : All (λ (r : Resolved). IsAssignedIn trail.entries r.literal.variable) learned.resolved.items
+  pub touched : AreTouched trail (literals_of learned.resolved.items) learned.lits learned.touched.items
 
 -- The clause that a conflict teaches: resolved from that and the clauses that the search holds, on literals of the trail, which are touched with its own.
 pub record IsLesson (c : SearchState) (rows : List (List Literal)) (conflict : List Literal) (learned : Learned) : Type 0 where

@@ -22,3 +22,4 @@ pub mod Alike
 pub mod Analysing
 pub mod Tidying
 pub mod Tautologies
+pub mod Grading

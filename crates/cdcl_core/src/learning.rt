@@ -6,10 +6,8 @@ ghost use Rattle.cx_base.specs.Numbers.{AreStepIntegers};
 ghost use Rattle.cx_base.specs.declared.steps.LogEvent.TheVariants as event;
 ghost use Rattle.cx_base.specs.declared.steps.LogStep.TheVariants as step;
 ghost use Rattle.conflict_learn.specs.Faults.{fault_in};
-ghost use Rattle.conflict_learn.specs.Learning.{literals_of};
 ghost use Rattle.conflict_learn.specs.declared.learning.Resolved.{Resolved};
 ghost use Rattle.conflict_learn.specs.Marks.{AreClear};
-ghost use Rattle.conflict_learn.specs.Touching.{AreTouched};
 ghost use Rattle.search_steps.specs.Hints.{hints_from};
 ghost use Rattle.cdcl_search.specs.Deleting.{deletions};
 ghost use Rattle.cdcl_search.specs.Tells.{IsId, AreIdsFrom, AreStepsOf};
@@ -17,7 +15,7 @@ ghost use Rattle.cdcl_search.specs.Logs.{GoesOn, HasNotFailed, told_in};
 ghost use Rattle.cdcl_search.specs.Ties.{first_row_id, row_ids};
 ghost use Rattle.cdcl_core.specs.Analysing.{AnalysesOn, CanAnalyse};
 ghost use Rattle.cdcl_core.specs.Concluding.{IsAtConflict, IsConflictClause, IsTold};
-ghost use Rattle.cdcl_core.specs.Learning.{IsLesson, Learns, MayLearn};
+ghost use Rattle.cdcl_core.specs.Learning.{AreUsed, IsLesson, Learns, MayLearn};
 
 use crate::conflicts::Conflict;
 use cdcl_search::SearchState;
@@ -156,7 +154,7 @@ pub(crate) fn learn<P: ParityEngine, L: Sink<Item = LogEvent>>(
     requires told { IsTold conflict }
     requires may { MayLearn log.old.formula.now state.now }
     ensures learned { IfOk result (λ r. Learns log.new.formula.now state.now (P.state engine.now) r.lits r.back_level (told_in L.Sink log.new)) }
-    ensures touched { IfOk result (λ r. AreTouched state.now.trail (literals_of r.resolved.items) r.lits r.touched.items) }
+    ensures used { IfOk result (AreUsed state.now.trail) }
     ensures clear { OnOk result (AreClear marks.new) }
     ensures log { GoesOn L.Sink log.old (fault_in result) log.new }
 {

@@ -10,6 +10,7 @@ mod ending;
 mod ending_rows;
 mod failing;
 mod filling;
+mod grading;
 mod jumping;
 mod learning;
 mod level_zero;

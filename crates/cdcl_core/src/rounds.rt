@@ -24,6 +24,7 @@ ghost use Rattle.cdcl_core.specs.declared.solving.SearchOutcome.TheVariants as o
 use crate::conflicts::{Conclusion, Conflict, clause_against, conflict_clause};
 use crate::ending::tell_ending;
 use crate::failing::{Failure, fail};
+use crate::grading::grade_resolved;
 use crate::jumping::jump;
 use crate::learning::learn;
 use crate::refuting::{is_refuted, refute_conflict};
@@ -49,7 +50,7 @@ pub(crate) struct Run<'r, 'f, P, L> {
 }
 
 impl<P: ParityEngine, L: Sink<Item = LogEvent>> Run<'_, '_, P, L> {
-    /// Learns from a conflict above the levels of the assumed literals, and goes back. None: the search goes on.
+    /// Learns from a conflict above the levels of the assumed literals, counts the levels of the clauses anew that it used, and goes back. None: the search goes on.
     fn learn_and_jump(
         &mut self,
         assumptions: &mut Assumptions,
@@ -70,6 +71,7 @@ impl<P: ParityEngine, L: Sink<Item = LogEvent>> Run<'_, '_, P, L> {
                 conflicts: self.budget,
             }));
         }
+        grade_resolved(self.state, marks, &learned.resolved)?;
         let formula = self.log.formula;
         jump(formula, self.state, self.engine, assumptions, &learned)?;
         Ok(None)

@@ -3,6 +3,7 @@ use Rattle.std.proofs.lemmas.Result.{err_from_is_err_and}
 use Rattle.cdcl_search.specs.GoingOn.{log_then}
 use Rattle.cdcl_search.specs.Tells.{IsId}
 use Rattle.cdcl_core.specs.Learning.{MayLearn}
+use Rattle.cdcl_core.proofs.GradedTies.{resolved_assigned}
 use Rattle.cdcl_core.proofs.learning.learn.Goals as goal
 
 pub tell_learned-requires-clause-at : goal.tell_learned-requires-clause-at
@@ -23,14 +24,14 @@ tell_learned-requires-clause-going g c = c.in_ok-learned.ensures.on.log.failed â
 pub returns-in_err-learned : goal.returns-in_err-learned
 returns-in_err-learned g c =
     let fault = err_from_is_err_and c.from_residual.result c.from_residual.ensures.1 in
-    rw (fault.1, fault.2) (record { learned = tt; touched = tt; clear = tt; log = c.in_err-learned.ensures.on.log })
+    rw (fault.1, fault.2) (record { learned = tt; used = tt; clear = tt; log = c.in_err-learned.ensures.on.log })
 
 pub returns-in_err-tell_learned : goal.returns-in_err-tell_learned
 returns-in_err-tell_learned g c =
     let fault = err_from_is_err_and c.from_residual-in_err-tell_learned.result c.from_residual-in_err-tell_learned.ensures.1 in
     rw (fault.1, fault.2) (record {
       learned = tt;
-      touched = tt;
+      used = tt;
       clear = tt;
       log = log_then g.L.Sink g.met.L.Sink.keeps_on _ c.lesson_of.new.log _ _ c.in_ok-learned.ensures.on.log c.in_err-tell_learned.ensures.log;
     })
@@ -38,8 +39,12 @@ returns-in_err-tell_learned g c =
 pub returns-clause-learned : goal.returns-clause-learned
 returns-clause-learned g c = c.in_ok-tell_learned.ensures.learned
 
-pub returns-clause-touched : goal.returns-clause-touched
-returns-clause-touched g c = c.in_ok-learned.ensures.lesson.touched
+pub returns-clause-used : goal.returns-clause-used
+returns-clause-used g c =
+    record {
+      assigned = resolved_assigned c.args.state.now.trail c.in_ok-learned.learned.resolved.items c.in_ok-learned.ensures.lesson.stand;
+      touched = c.in_ok-learned.ensures.lesson.touched;
+    }
 
 pub returns-clause-clear : goal.returns-clause-clear
 returns-clause-clear g c = c.in_ok-learned.ensures.on.clear
