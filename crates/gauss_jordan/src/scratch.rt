@@ -12,6 +12,7 @@ use crate::masks;
 use crate::slot::{RowSlot, copy_row, empty_slots, is_unmet, keep_slots, source_list};
 use cx_base::{IdList, Lit, LitList, ParityList, Row, Var};
 use gf2_matrix::{Matrix, RowView, clear_words};
+use gf2_rows::WordRow;
 use parity_engine::{Held, Mood, Naming, ParityEngine, ParityEvent, nothing_held};
 use std::alloc::{AllocError, Global};
 use std::marker::Model;
@@ -58,7 +59,7 @@ impl Scratch {
             self.matrix.vars(),
             &self.variables,
             0,
-            &slot.terms,
+            WordRow::whole(&slot.terms),
             slot.right,
         )
     }

@@ -1,5 +1,5 @@
 -- Sets of rows by column.
-use Rattle.std.proofs.Common.{◌≡◌, ◌≢◌, ℕ, ◌+◌, ◌-◌, ◌*◌, ◌<◌, ◌≤◌, Bool, true, false, ◌&&◌, cond, nat_eq, List, [], ◌∷◌, ◌++◌, Option, Some, None, length, length-append, get_or, set, refl, sym, ap, ◌∙◌, subst, arith, inl, inr, true≢false}
+use Rattle.std.proofs.Common.{◌≡◌, ◌≢◌, ℕ, ◌+◌, ◌-◌, ◌*◌, ◌<◌, ◌≤◌, Bool, true, false, ◌&&◌, eqb, List, [], ◌∷◌, ◌++◌, Option, Some, None, length, length-append, get_or, refl, sym, ap, ◌∙◌, subst, arith, inl, inr, true≢false}
 use Rattle.std.specs.Option.{is_some}
 use Rattle.std.specs.Slice.Scan.{HoldsNowhere, IsFirstPlace}
 use Rattle.cx_base.specs.declared.literal.TheConstants.{MAX_VARIABLE}
@@ -9,12 +9,13 @@ use Rattle.std.proofs.lemmas.List.{get_or-set_same, get_or-set_other, get_or_app
 use Rattle.std.proofs.lemmas.Bool.{cases_eq, cases_lt, eq-eqb, ne_eqb}
 use Rattle.cx_base.specs.Literals.{differ}
 use Rattle.gf2_rows.specs.Bits.{bit_of}
+use Rattle.gf2_rows.specs.Tables.{words_at, IsChangedAt}
 use Rattle.gf2_rows.proofs.Words.{bit_past_end}
 use Rattle.gf2_matrix.specs.declared.packed.PackedRow.{PackedRow}
-use Rattle.gf2_matrix.specs.declared.by_column.RowSet.{RowSet}
 use Rattle.gf2_matrix.specs.declared.by_column.ByColumn.{ByColumn}
 use Rattle.gf2_matrix.specs.Views.{words_for}
-use Rattle.gf2_matrix.specs.Packed.{Window, window_at, start, takes_pivot, ArePlacesIn, ArePivoted, IsPivotedRow}
+use Rattle.gf2_matrix.specs.Packed.{Window, window_at, start, takes_pivot, ArePlacesIn, ArePivoted, IsPivotedRow, IsSumRow}
+use Rattle.gf2_matrix.specs.Rows.{IsOnlyChange}
 use Rattle.gf2_matrix.specs.ByColumn.{AreTurned, AreSized, AreClear, IsByColumn, AreByColumn, IsColumnOf, IsRarestOf, HaveRows, set_size}
 use Rattle.gf2_matrix.proofs.Updates.{same_read}
 use Rattle.gf2_matrix.proofs.Rows.{pivoted_more}
@@ -23,119 +24,105 @@ differ_none : (a : Bool) → a ≡ differ a false
 differ_none true = refl
 differ_none false = refl
 
-pub turned_none : (chosen bits : List ℕ) (first : ℕ) (sets : List RowSet) → AreSized (length chosen) sets → AreTurned chosen bits first sets sets 0
-turned_none chosen bits first sets sized = record { long = refl; sized = sized; done = λ i m d lt in'. absurd (omega arith); left = λ i d ge. refl }
+pub turned_none : (chosen : ℕ → Bool) (bits : List ℕ) (first : ℕ) (sets : List (List ℕ)) → AreTurned chosen bits first sets sets 0
+turned_none chosen bits first sets = record { long = refl; same = λ i. refl; done = λ i m lt in'. absurd (omega arith); left = λ i ge. refl }
 
 -- columns that the bits lack
-pub turned_gap : (chosen bits : List ℕ) (first : ℕ) (old new : List RowSet) (n next : ℕ) → AreTurned chosen bits first old new n → n ≤ next
+pub turned_gap : (chosen : ℕ → Bool) (bits : List ℕ) (first : ℕ) (old new : List (List ℕ)) (n next : ℕ) → AreTurned chosen bits first old new n → n ≤ next
     → ((i : ℕ) → n ≤ i → i < next → i < length old → bit_of bits (first + i) ≡ false) → AreTurned chosen bits first old new next
 turned_gap chosen bits first old new n next so le lacks = record {
   long = so.long;
-  sized = so.sized;
-  done = λ i m d lt in'.
+  same = so.same;
+  done = λ i m lt in'.
       elim (cases_lt i n) [
-        | inl small ↦ so.done i m d small in'
+        | inl small ↦ so.done i m small in'
         | inr ge ↦
-            ap (λ (s : RowSet). bit_of s.words.items m) (so.left i d ge)
-            ∙ differ_none (bit_of (get_or old i d).words.items m)
-            ∙ ap (λ b. differ (bit_of (get_or old i d).words.items m) (b && bit_of chosen m)) (sym (lacks i ge lt in'))
+            ap (λ s. bit_of s m) (so.left i ge)
+            ∙ differ_none (bit_of (words_at old i) m)
+            ∙ ap (λ b. differ (bit_of (words_at old i) m) (b && chosen m)) (sym (lacks i ge lt in'))
       ];
-  left = λ i d ge. so.left i d (omega arith);
+  left = λ i ge. so.left i (omega arith);
 }
 
 -- a column that the bits have
-pub turned_more : (chosen bits : List ℕ) (first : ℕ) (old new : List RowSet) (n : ℕ) (v d : RowSet) → AreTurned chosen bits first old new n → n < length old
-    → bit_of bits (first + n) ≡ true → length v.words.items ≡ length chosen
-    → ((m : ℕ) → bit_of v.words.items m ≡ differ (bit_of (get_or new n d).words.items m) (bit_of chosen m))
-    → AreTurned chosen bits first old (set new n v) (n + 1)
-turned_more chosen bits first old new n v d so within on long sum =
-    let n_in : n < length new = let l = so.long in omega arith in
-    record {
-      long = length-set new n v ∙ so.long;
-      sized = λ i e lt.
-          elim (cases_eq i n) [
-            | inl same ↦ subst (λ k. length (get_or (set new n v) k e).words.items ≡ length chosen) (sym same) (rw (get_or-set_same new n v e n_in) long)
-            | inr ne ↦ rw (get_or-set_other new n i v e ne) (so.sized i e (let l = length-set new n v in omega arith))
-          ];
-      done = λ i m e lt in'.
-          elim (cases_eq i n) [
-            | inl same ↦
-                let was : bit_of (get_or new n d).words.items m ≡ bit_of (get_or old n e).words.items m =
-                ap (λ (s : RowSet). bit_of s.words.items m) (same_read new n d e n_in ∙ so.left n e (omega arith)) in
-                subst (λ k. bit_of (get_or (set new n v) k e).words.items m ≡ differ (bit_of (get_or old k e).words.items m) (bit_of bits (first + k) && bit_of chosen m)) (sym same)
-                (rw (get_or-set_same new n v e n_in, on) (sum m ∙ ap (λ b. differ b (bit_of chosen m)) was))
-            | inr ne ↦ rw (get_or-set_other new n i v e ne) (so.done i m e (omega arith) in')
-          ];
-      left = λ i e ge. get_or-set_other new n i v e (λ same. omega arith) ∙ so.left i e (omega arith);
-    }
-
--- past the last set there is none to turn
-turned_cut : (chosen bits : List ℕ) (first : ℕ) (old new : List RowSet) (n : ℕ) → AreTurned chosen bits first old new n → length old ≤ n → AreTurned chosen bits first old new (length old)
-turned_cut chosen bits first old new n so le = record {
-  long = so.long;
-  sized = so.sized;
-  done = λ i m d lt in'. so.done i m d (omega arith) in';
-  left = λ i d ge. get_or-eq_default new d (let l = so.long in omega arith) ∙ sym (get_or-eq_default old d ge);
+pub turned_more : (chosen : ℕ → Bool) (bits : List ℕ) (first : ℕ) (old new turned : List (List ℕ)) (n : ℕ) → AreTurned chosen bits first old new n → n < length old
+    → bit_of bits (first + n) ≡ true → IsChangedAt n new turned → ((m : ℕ) → bit_of (words_at turned n) m ≡ differ (bit_of (words_at new n) m) (chosen m))
+    → AreTurned chosen bits first old turned (n + 1)
+turned_more chosen bits first old new turned n so within on change sum = record {
+  long = change.rows ∙ so.long;
+  same = λ i.
+      elim (cases_eq i n) [
+        | inl here ↦ subst (λ k. length (words_at turned k) ≡ length (words_at old k)) (sym here) (change.words ∙ so.same n)
+        | inr ne ↦ ap length (change.others i ne) ∙ so.same i
+      ];
+  done = λ i m lt in'.
+      elim (cases_eq i n) [
+        | inl same ↦
+            subst (λ k. bit_of (words_at turned k) m ≡ differ (bit_of (words_at old k) m) (bit_of bits (first + k) && chosen m)) (sym same)
+            (rw on (sum m ∙ ap (λ s. differ (bit_of s m) (chosen m)) (so.left n (omega arith))))
+        | inr ne ↦ ap (λ s. bit_of s m) (change.others i ne) ∙ so.done i m (omega arith) in'
+      ];
+  left = λ i ge. change.others i (λ same. omega arith) ∙ so.left i (omega arith);
 }
 
--- the next column that the bits have is past the last set
-pub turned_past : (chosen bits : List ℕ) (first : ℕ) (old new : List RowSet) (from to bit : ℕ) → AreTurned chosen bits first old new (from - first) → first ≤ from
-    → IsFirstPlace (bit_of bits) from to bit → length new ≤ bit - first → AreTurned chosen bits first old new (length old)
-turned_past chosen bits first old new from to bit so low is past =
-    let at = is.low in
-    turned_cut chosen bits first old new (bit - first)
-    (turned_gap chosen bits first old new (from - first) (bit - first) so (omega arith) (λ i ge lt in'. is.before (first + i) (omega arith) (omega arith)))
-    (let l = so.long in omega arith)
+-- past the last set there is none to turn
+turned_cut : (chosen : ℕ → Bool) (bits : List ℕ) (first : ℕ) (old new : List (List ℕ)) (n : ℕ) → AreTurned chosen bits first old new n → length old ≤ n
+    → AreTurned chosen bits first old new (length old)
+turned_cut chosen bits first old new n so le = record {
+  long = so.long;
+  same = so.same;
+  done = λ i m lt in'. so.done i m (omega arith) in';
+  left = λ i ge. get_or-eq_default new [] (let l = so.long in omega arith) ∙ sym (get_or-eq_default old [] ge);
+}
 
--- the bits have no further column
-pub turned_all : (chosen bits : List ℕ) (first : ℕ) (old new : List RowSet) (from : ℕ) → AreTurned chosen bits first old new (from - first) → first ≤ from
-    → HoldsNowhere (bit_of bits) from (64 * length bits) → AreTurned chosen bits first old new (length old)
-turned_all chosen bits first old new from so low none =
-    turned_cut chosen bits first old new (from - first + length old)
-    (turned_gap chosen bits first old new (from - first) (from - first + length old) so (omega arith)
-    (λ i ge lt in'.
-    elim (cases_lt (first + i) (64 * length bits)) [
-      | inl small ↦ none (first + i) (omega arith) small
-      | inr past ↦ bit_past_end bits (first + i) past
-    ]))
-    (omega arith)
+module _ (chosen : ℕ → Bool) (bits : List ℕ) (first : ℕ) (old new : List (List ℕ)) (from : ℕ)
+    (so : AreTurned chosen bits first old new (from - first)) (low : first ≤ from) where
+  -- the next column that the bits have is past the last set
+  pub turned_past : (to bit : ℕ) → IsFirstPlace (bit_of bits) from to bit → length new ≤ bit - first → AreTurned chosen bits first old new (length old)
+  turned_past to bit is past =
+      let at = is.low in
+      turned_cut chosen bits first old new (bit - first)
+      (turned_gap chosen bits first old new (from - first) (bit - first) so (omega arith) (λ i ge lt in'. is.before (first + i) (omega arith) (omega arith)))
+      (let l = so.long in omega arith)
 
--- the set of the next column that the bits have is turned
-pub turned_next : (chosen bits : List ℕ) (first : ℕ) (old new : List RowSet) (from to bit : ℕ) (v d : RowSet) → AreTurned chosen bits first old new (from - first) → first ≤ from
-    → IsFirstPlace (bit_of bits) from to bit → bit < to → bit - first < length new → length v.words.items ≡ length chosen
-    → ((m : ℕ) → bit_of v.words.items m ≡ differ (bit_of (get_or new (bit - first) d).words.items m) (bit_of chosen m))
-    → AreTurned chosen bits first old (set new (bit - first) v) (bit + 1 - first)
-turned_next chosen bits first old new from to bit v d so low is within in' long sum =
-    let at = is.low in
-    let n : ℕ = bit - first in
-    let back : first + n ≡ bit = omega arith in
-    let next : n + 1 ≡ bit + 1 - first = omega arith in
-    subst (AreTurned chosen bits first old (set new n v)) next
-    (turned_more chosen bits first old new n v d
-    (turned_gap chosen bits first old new (from - first) n so (omega arith) (λ i ge lt in'. is.before (first + i) (omega arith) (omega arith)))
-    (let l = so.long in omega arith) (ap (bit_of bits) back ∙ is.hit within) long sum)
+  -- the bits have no further column
+  pub turned_all : HoldsNowhere (bit_of bits) from (64 * length bits) → AreTurned chosen bits first old new (length old)
+  turned_all none =
+      turned_cut chosen bits first old new (from - first + length old)
+      (turned_gap chosen bits first old new (from - first) (from - first + length old) so (omega arith)
+      (λ i ge lt in'.
+      elim (cases_lt (first + i) (64 * length bits)) [
+        | inl small ↦ none (first + i) (omega arith) small
+        | inr past ↦ bit_past_end bits (first + i) past
+      ]))
+      (omega arith)
+
+  -- the set of the next column that the bits have is turned
+  pub turned_next : (to bit : ℕ) (turned : List (List ℕ)) → IsFirstPlace (bit_of bits) from to bit → bit < to → bit - first < length new → IsChangedAt (bit - first) new turned
+      → ((m : ℕ) → bit_of (words_at turned (bit - first)) m ≡ differ (bit_of (words_at new (bit - first)) m) (chosen m))
+      → AreTurned chosen bits first old turned (bit + 1 - first)
+  turned_next to bit turned is within in' change sum =
+      let at = is.low in
+      let n : ℕ = bit - first in
+      let back : first + n ≡ bit = omega arith in
+      let next : n + 1 ≡ bit + 1 - first = omega arith in
+      subst (AreTurned chosen bits first old turned) next
+      (turned_more chosen bits first old new turned n
+      (turned_gap chosen bits first old new (from - first) n so (omega arith) (λ i ge lt in'. is.before (first + i) (omega arith) (omega arith)))
+      (let l = so.long in omega arith) (ap (bit_of bits) back ∙ is.hit within) change sum)
 
 -- ---- the part by columns, a row at a time
 -- the sets have the rows of the first n numbers
-pub record AreEntered (w : Window) (rows : List PackedRow) (sets : List RowSet) (chosen : List ℕ) (n : ℕ) : Type 0 where
+pub record AreEntered (w : Window) (rows : List PackedRow) (sets : List (List ℕ)) (n : ℕ) : Type 0 where
   pub count : length sets ≡ length w.columns
   pub sized : AreSized (words_for (length w.numbers)) sets
-  pub room : length chosen ≡ words_for (length w.numbers)
-  pub free : (m : ℕ) → bit_of chosen m ≡ false
-  pub done : (i m k : ℕ) (d : RowSet) (e : PackedRow) → i < length w.columns → m < n → get_or w.numbers m 0 ≡ k + 1
-      → bit_of (get_or sets i d).words.items m ≡ bit_of (get_or rows k e).bits.items (start w + i)
-  pub ahead : (i m : ℕ) (d : RowSet) → i < length w.columns → n ≤ m → bit_of (get_or sets i d).words.items m ≡ false
+  pub done : (i m k : ℕ) (e : PackedRow) → i < length w.columns → m < n → get_or w.numbers m 0 ≡ k + 1
+      → bit_of (words_at sets i) m ≡ bit_of (get_or rows k e).bits (start w + i)
+  pub ahead : (i m : ℕ) → i < length w.columns → n ≤ m → bit_of (words_at sets i) m ≡ false
 
-pub entered_none : (w : Window) (rows : List PackedRow) (sets : List RowSet) (chosen : List ℕ) → length sets ≡ length w.columns → AreSized (words_for (length w.numbers)) sets → AreClear sets
-    → length chosen ≡ words_for (length w.numbers) → ((m : ℕ) → bit_of chosen m ≡ false) → AreEntered w rows sets chosen 0
-entered_none w rows sets chosen count sized clear room free = record {
-  count = count;
-  sized = sized;
-  room = room;
-  free = free;
-  done = λ i m k d e i_in lt at. absurd (omega arith);
-  ahead = λ i m d i_in ge. clear i m d (omega arith);
-}
+pub entered_none : (w : Window) (rows : List PackedRow) (sets : List (List ℕ)) → length sets ≡ length w.columns → AreSized (words_for (length w.numbers)) sets → AreClear sets
+    → AreEntered w rows sets 0
+entered_none w rows sets count sized clear = record { count = count; sized = sized; done = λ i m k e i_in lt at. absurd (omega arith); ahead = λ i m i_in ge. clear i m (omega arith) }
 
 pub differ_kept : (a b : Bool) → differ a (b && false) ≡ a
 differ_kept true true = refl
@@ -147,39 +134,25 @@ differ_put : (b : Bool) → differ false (b && true) ≡ b
 differ_put true = refl
 differ_put false = refl
 
-pub entered_more : (w : Window) (rows : List PackedRow) (sets : List RowSet) (chosen : List ℕ) (n : ℕ) (row e' : PackedRow) (one freed : List ℕ) (new : List RowSet)
-    → AreEntered w rows sets chosen n → n < length w.numbers → 1 ≤ get_or w.numbers n 0 → get_or w.numbers n 0 ≤ length rows → row ≡ get_or rows (get_or w.numbers n 0 - 1) e'
-    → ((m : ℕ) → bit_of one m ≡ cond (nat_eq m n) true (bit_of chosen m))
-    → AreTurned one row.bits.items (start w) sets new (length sets)
-    → length one ≡ length chosen → length freed ≡ length one → ((m : ℕ) → bit_of freed m ≡ cond (nat_eq m n) false (bit_of one m))
-    → AreEntered w rows new freed (n + 1)
-entered_more w rows sets chosen n row e' one freed new so within low high is ones turned long longer frees =
-    let other : (m : ℕ) → m ≢ n → bit_of one m ≡ false = λ m ne. ones m ∙ rw (ne_eqb m n ne) (so.free m) in
-    let here : bit_of one n ≡ true = ones n ∙ rw (eq-eqb n n refl) refl in
-    record {
-      count = turned.long ∙ so.count;
-      sized = λ i d lt. turned.sized i d lt ∙ long ∙ so.room;
-      room = longer ∙ long ∙ so.room;
-      free = λ m.
-          frees m
-          ∙ elim (cases_eq m n) [
-            | inl same ↦ rw (eq-eqb m n same) refl
-            | inr ne ↦ rw (ne_eqb m n ne) (other m ne)
-          ];
-      done = λ i m k d e i_in lt at.
-          turned.done i m d (let c = so.count in omega arith) (let c = so.count in omega arith)
-          ∙ elim (cases_eq m n) [
-            | inl same ↦
-                let read : row ≡ get_or rows k e =
-                is ∙ ap (λ j. get_or rows j e') (let g = ap (λ j. get_or w.numbers j 0) same in omega arith) ∙ same_read rows k e' e (let g = ap (λ j. get_or w.numbers j 0) same in omega arith) in
-                let on : bit_of one m ≡ true = ap (bit_of one) same ∙ here in
-                rw (so.ahead i m d i_in (omega arith), on) (differ_put (bit_of row.bits.items (start w + i)) ∙ ap (λ (r : PackedRow). bit_of r.bits.items (start w + i)) read)
-            | inr ne ↦ rw (other m ne) (differ_kept (bit_of (get_or sets i d).words.items m) (bit_of row.bits.items (start w + i)) ∙ so.done i m k d e i_in (omega arith) at)
-          ];
-      ahead = λ i m d i_in ge.
-          turned.done i m d (let c = so.count in omega arith) (let c = so.count in omega arith)
-          ∙ rw (other m (λ same. omega arith)) (differ_kept (bit_of (get_or sets i d).words.items m) (bit_of row.bits.items (start w + i)) ∙ so.ahead i m d i_in (omega arith));
-    }
+pub entered_more : (w : Window) (rows : List PackedRow) (sets new : List (List ℕ)) (n : ℕ) (row e' : PackedRow) → AreEntered w rows sets n → n < length w.numbers → 1 ≤ get_or w.numbers n 0
+    → get_or w.numbers n 0 ≤ length rows → row ≡ get_or rows (get_or w.numbers n 0 - 1) e'
+    → AreTurned (λ m. eqb m n) row.bits (start w) sets new (length sets) → AreEntered w rows new (n + 1)
+entered_more w rows sets new n row e' so within low high is turned = record {
+  count = turned.long ∙ so.count;
+  sized = λ i lt. turned.same i ∙ so.sized i (let l = turned.long in omega arith);
+  done = λ i m k e i_in lt at.
+      turned.done i m (let c = so.count in omega arith) (let c = so.count in omega arith)
+      ∙ elim (cases_eq m n) [
+        | inl same ↦
+            let read : row ≡ get_or rows k e =
+            is ∙ ap (λ j. get_or rows j e') (let g = ap (λ j. get_or w.numbers j 0) same in omega arith) ∙ same_read rows k e' e (let g = ap (λ j. get_or w.numbers j 0) same in omega arith) in
+            rw (so.ahead i m i_in (omega arith), eq-eqb m n same) (differ_put (bit_of row.bits (start w + i)) ∙ ap (λ (r : PackedRow). bit_of r.bits (start w + i)) read)
+        | inr ne ↦ rw (ne_eqb m n ne) (differ_kept (bit_of (words_at sets i) m) (bit_of row.bits (start w + i)) ∙ so.done i m k e i_in (omega arith) at)
+      ];
+  ahead = λ i m i_in ge.
+      turned.done i m (let c = so.count in omega arith) (let c = so.count in omega arith)
+      ∙ rw (ne_eqb m n (λ same. omega arith)) (differ_kept (bit_of (words_at sets i) m) (bit_of row.bits (start w + i)) ∙ so.ahead i m i_in (omega arith));
+}
 
 -- ---- the row of the number at a place
 pub entry_low : (w : Window) (rows : List PackedRow) (n number : ℕ) → HaveRows w rows → n < length w.numbers → number ≡ get_or w.numbers n number → 1 ≤ number
@@ -193,9 +166,9 @@ entry_high w rows n number have lt is =
     omega arith
 
 pub entry_words : (w : Window) (rows : List PackedRow) (n number : ℕ) (row : PackedRow) → HaveRows w rows → n < length w.numbers → number ≡ get_or w.numbers n number
-    → row ≡ get_or rows (number - 1) row → length row.bits.items ≡ words_for (start w + length w.columns)
+    → row ≡ get_or rows (number - 1) row → length row.bits ≡ words_for (start w + length w.columns)
 entry_words w rows n number row have lt is read =
-    ap (λ (r : PackedRow). length r.bits.items) (read ∙ ap (λ k. get_or rows (k - 1) row) (is ∙ same_read w.numbers n number 0 lt)) ∙ (have.sized n row lt).0
+    ap (λ (r : PackedRow). length r.bits) (read ∙ ap (λ k. get_or rows (k - 1) row) (is ∙ same_read w.numbers n number 0 lt)) ∙ (have.sized n row lt).0
 
 pub few_for : (w : Window) → length w.columns ≤ MAX_VARIABLE → words_for (start w + length w.columns) < 4294967296
 few_for w few = omega arith
@@ -206,12 +179,12 @@ start_in w = omega arith
 pub place_in : {n count : ℕ} → n < count → n < 64 * words_for count
 place_in lt = omega arith
 
-pub all_entered : (w : Window) (rows : List PackedRow) (sets : List RowSet) (chosen : List ℕ) (n to : ℕ) → AreEntered w rows sets chosen n → to ≡ length w.numbers → n ≤ to → to ≤ n
-    → AreEntered w rows sets chosen (length w.numbers)
-all_entered w rows sets chosen n to so is le ge = let same : n ≡ length w.numbers = omega arith in subst (AreEntered w rows sets chosen) same so
+pub all_entered : (w : Window) (rows : List PackedRow) (sets : List (List ℕ)) (n to : ℕ) → AreEntered w rows sets n → to ≡ length w.numbers → n ≤ to → to ≤ n
+    → AreEntered w rows sets (length w.numbers)
+all_entered w rows sets n to so is le ge = let same : n ≡ length w.numbers = omega arith in subst (AreEntered w rows sets) same so
 
-pub entered_all : (w : Window) (rows : List PackedRow) (c : ByColumn) → AreEntered w rows c.sets.items c.chosen.items (length w.numbers) → IsByColumn w rows c
-entered_all w rows c so = record { count = so.count; sized = so.sized; room = so.room; bits = so.done; past = so.ahead }
+pub entered_all : (w : Window) (rows : List PackedRow) (c : ByColumn) → AreEntered w rows c.sets (length w.numbers) → length c.chosen.items ≡ words_for (length w.numbers) → IsByColumn w rows c
+entered_all w rows c so room = record { count = so.count; sized = so.sized; room = room; bits = so.done; past = so.ahead }
 
 pub by_column_more : (windows : List Window) (rows : List PackedRow) (all new : List ByColumn) (n : ℕ) (c : ByColumn) → AreByColumn windows rows all n → new ≡ all ++ c ∷ []
     → IsByColumn (window_at windows n) rows c → AreByColumn windows rows new (n + 1)
@@ -284,14 +257,17 @@ module _ (row bit : ℕ) (pivot : PackedRow) (numbers chosen : List ℕ) (old ne
       ]))
       (omega arith)
 
-  pub chosen_next : (to place j : ℕ) (e n : PackedRow) → IsFirstPlace (bit_of chosen) from to place → place < to → place < length numbers → get_or numbers place 0 ≡ j + 1
-      → IsPivotedRow true pivot (get_or new j e) n → ArePivoted row bit pivot numbers old (set new j n) (place + 1)
-  chosen_next to place j e n is within in' at step =
+  -- the row of a number that has not been reached
+  pub chosen_untouched : (place j : ℕ) → from ≤ place → place < length numbers → get_or numbers place 0 ≡ j + 1 → (d : PackedRow) → get_or new j d ≡ get_or old j d
+  chosen_untouched place j ge in' at d = so.left j d (λ k small same. absurd (let q = places.apart k place (omega arith) in' (same ∙ sym at) in omega arith))
+
+  pub chosen_next : (to place j : ℕ) (next : List PackedRow) → IsFirstPlace (bit_of chosen) from to place → place < to → place < length numbers → get_or numbers place 0 ≡ j + 1
+      → IsOnlyChange j new next → ((d : PackedRow) → IsSumRow (get_or next j d) (get_or new j d) pivot) → ArePivoted row bit pivot numbers old next (place + 1)
+  chosen_next to place j next is within in' at change sum =
       let here = chosen_gap row bit pivot numbers old new from place places so is.low (λ i j d ge lt in' at. sym (are i j d in' at) ∙ is.before i ge lt) in
-      let same : get_or new j e ≡ get_or old j e =
-      here.left j e (λ k small same. absurd (let q = places.apart k place (omega arith) in' (same ∙ sym at) in omega arith)) in
-      pivoted_more row bit pivot numbers old new place j e n true places here in' at
-      (sym (is.hit within) ∙ are place j e in' at ∙ ap (takes_pivot row bit j) (sym same)) step
+      pivoted_more row bit pivot numbers old new next place j places here in' at change
+      (λ d. subst (λ b. IsPivotedRow b pivot (get_or old j d) (get_or next j d)) (sym (is.hit within) ∙ are place j d in' at)
+      (subst (λ o. IsSumRow (get_or next j d) o pivot) (chosen_untouched place j is.low in' at d) (sum d)))
 
 -- ---- a column of the bits
 -- the same of the bits before a position
@@ -300,43 +276,43 @@ IsColumnBefore bits first n from None = HoldsNowhere (bit_of bits) first from
 IsColumnBefore bits first n from (Some i) = (i < n) × (bit_of bits (first + i) ≡ true)
 
 -- the set of the column has so many rows, and that of no other before the position has fewer
-pub record IsRarestBefore (bits : List ℕ) (first : ℕ) (sets : List RowSet) (from : ℕ) (rarest : Option ℕ) (fewest : ℕ) : Type 0 where
+pub record IsRarestBefore (bits : List ℕ) (first : ℕ) (sets : List (List ℕ)) (from : ℕ) (rarest : Option ℕ) (fewest : ℕ) : Type 0 where
   pub column : IsColumnBefore bits first (length sets) from rarest
-  pub size : (i : ℕ) (d : RowSet) → rarest ≡ Some i → set_size (get_or sets i d) ≡ fewest
-  pub least : (i j : ℕ) (d : RowSet) → rarest ≡ Some i → j < length sets → first + j < from → bit_of bits (first + j) ≡ true → fewest ≤ set_size (get_or sets j d)
+  pub size : (i : ℕ) → rarest ≡ Some i → set_size (words_at sets i) ≡ fewest
+  pub least : (i j : ℕ) → rarest ≡ Some i → j < length sets → first + j < from → bit_of bits (first + j) ≡ true → fewest ≤ set_size (words_at sets j)
 
 -- before the first column
-pub rarest_none : (bits : List ℕ) (first : ℕ) (sets : List RowSet) → IsRarestBefore bits first sets first None 0
+pub rarest_none : (bits : List ℕ) (first : ℕ) (sets : List (List ℕ)) → IsRarestBefore bits first sets first None 0
 rarest_none bits first sets = record {
   column = λ k ge lt. absurd (omega arith);
-  size = λ i d found. absurd (cc);
-  least = λ i j d found. absurd (cc);
+  size = λ i found. absurd (cc);
+  least = λ i j found. absurd (cc);
 }
 
 -- as few rows as the column's, in the sets of the columns before
-rarer : (bits : List ℕ) (first : ℕ) (sets : List RowSet) (from : ℕ) (rarest : Option ℕ) (fewest rows : ℕ) → IsRarestBefore bits first sets from rarest fewest
-    → ((i : ℕ) → rarest ≡ Some i → rows < fewest) → (j : ℕ) (d : RowSet) → j < length sets → first + j < from → bit_of bits (first + j) ≡ true → rows ≤ set_size (get_or sets j d)
-rarer bits first sets from None fewest rows so fewer j d j_in before on = absurd (true≢false (sym on ∙ so.column (first + j) (omega arith) before))
-rarer bits first sets from (Some i) fewest rows so fewer j d j_in before on = let less = fewer i refl in let least = so.least i j d refl j_in before on in omega arith
+rarer : (bits : List ℕ) (first : ℕ) (sets : List (List ℕ)) (from : ℕ) (rarest : Option ℕ) (fewest rows : ℕ) → IsRarestBefore bits first sets from rarest fewest
+    → ((i : ℕ) → rarest ≡ Some i → rows < fewest) → (j : ℕ) → j < length sets → first + j < from → bit_of bits (first + j) ≡ true → rows ≤ set_size (words_at sets j)
+rarer bits first sets from None fewest rows so fewer j j_in before on = absurd (true≢false (sym on ∙ so.column (first + j) (omega arith) before))
+rarer bits first sets from (Some i) fewest rows so fewer j j_in before on = let less = fewer i refl in let least = so.least i j refl j_in before on in omega arith
 
 -- the next column that the bits have is the first, or its set has fewer rows
-pub rarest_taken : (bits : List ℕ) (first : ℕ) (sets : List RowSet) (from to bit : ℕ) (rarest : Option ℕ) (fewest rows : ℕ) (d : RowSet) → IsRarestBefore bits first sets from rarest fewest
-    → IsFirstPlace (bit_of bits) from to bit → bit < to → first ≤ bit → bit - first < length sets → rows ≡ set_size (get_or sets (bit - first) d)
+pub rarest_taken : (bits : List ℕ) (first : ℕ) (sets : List (List ℕ)) (from to bit : ℕ) (rarest : Option ℕ) (fewest rows : ℕ) → IsRarestBefore bits first sets from rarest fewest
+    → IsFirstPlace (bit_of bits) from to bit → bit < to → first ≤ bit → bit - first < length sets → rows ≡ set_size (words_at sets (bit - first))
     → ((i : ℕ) → rarest ≡ Some i → rows < fewest) → IsRarestBefore bits first sets (bit + 1) (Some (bit - first)) rows
-rarest_taken bits first sets from to bit rarest fewest rows d so is within low in' size fewer =
+rarest_taken bits first sets from to bit rarest fewest rows so is within low in' size fewer =
     let back : first + (bit - first) ≡ bit = omega arith in
     record {
       column = (in', ap (bit_of bits) back ∙ is.hit within);
-      size = λ i e found. let at : bit - first ≡ i = cc in subst (λ k. set_size (get_or sets k e) ≡ rows) at (ap set_size (same_read sets (bit - first) e d in') ∙ sym size);
-      least = λ i j e found j_in lt on.
+      size = λ i found. let at : bit - first ≡ i = cc in subst (λ k. set_size (words_at sets k) ≡ rows) at (sym size);
+      least = λ i j found j_in lt on.
           elim (cases_lt (first + j) from) [
-            | inl before ↦ rarer bits first sets from rarest fewest rows so fewer j e j_in before on
+            | inl before ↦ rarer bits first sets from rarest fewest rows so fewer j j_in before on
             | inr ge ↦
                 elim (cases_lt (first + j) bit) [
                   | inl small ↦ absurd (true≢false (sym on ∙ is.before (first + j) ge small))
                   | inr last ↦
                       let at : bit - first ≡ j = omega arith in
-                      let same : rows ≡ set_size (get_or sets j e) = size ∙ ap set_size (same_read sets (bit - first) d e in') ∙ ap (λ k. set_size (get_or sets k e)) at in
+                      let same : rows ≡ set_size (words_at sets j) = size ∙ ap (λ k. set_size (words_at sets k)) at in
                       omega arith
                 ]
           ];
@@ -347,21 +323,21 @@ column_stays bits first n from next None so some = absurd (true≢false (sym som
 column_stays bits first n from next (Some i) so some = so
 
 -- the set of the next column that the bits have has no fewer rows
-pub rarest_stays : (bits : List ℕ) (first : ℕ) (sets : List RowSet) (from to bit : ℕ) (rarest : Option ℕ) (fewest rows : ℕ) (d : RowSet) → IsRarestBefore bits first sets from rarest fewest
-    → IsFirstPlace (bit_of bits) from to bit → first ≤ bit → bit - first < length sets → rows ≡ set_size (get_or sets (bit - first) d) → is_some rarest ≡ true → fewest ≤ rows
+pub rarest_stays : (bits : List ℕ) (first : ℕ) (sets : List (List ℕ)) (from to bit : ℕ) (rarest : Option ℕ) (fewest rows : ℕ) → IsRarestBefore bits first sets from rarest fewest
+    → IsFirstPlace (bit_of bits) from to bit → first ≤ bit → bit - first < length sets → rows ≡ set_size (words_at sets (bit - first)) → is_some rarest ≡ true → fewest ≤ rows
     → IsRarestBefore bits first sets (bit + 1) rarest fewest
-rarest_stays bits first sets from to bit rarest fewest rows d so is low in' size some le = record {
+rarest_stays bits first sets from to bit rarest fewest rows so is low in' size some le = record {
   column = column_stays bits first (length sets) from (bit + 1) rarest so.column some;
   size = so.size;
-  least = λ i j e found j_in lt on.
+  least = λ i j found j_in lt on.
       elim (cases_lt (first + j) from) [
-        | inl before ↦ so.least i j e found j_in before on
+        | inl before ↦ so.least i j found j_in before on
         | inr ge ↦
             elim (cases_lt (first + j) bit) [
               | inl small ↦ absurd (true≢false (sym on ∙ is.before (first + j) ge small))
               | inr last ↦
                   let at : bit - first ≡ j = omega arith in
-                  let same : rows ≡ set_size (get_or sets j e) = size ∙ ap set_size (same_read sets (bit - first) d e in') ∙ ap (λ k. set_size (get_or sets k e)) at in
+                  let same : rows ≡ set_size (words_at sets j) = size ∙ ap (λ k. set_size (words_at sets k)) at in
                   omega arith
             ]
       ];
@@ -377,13 +353,13 @@ column_past bits first n from to bit None so is past = λ i lt.
     ]
 column_past bits first n from to bit (Some i) so is past = so
 
-pub rarest_past : (bits : List ℕ) (first : ℕ) (sets : List RowSet) (from to bit : ℕ) (rarest : Option ℕ) (fewest : ℕ) → IsRarestBefore bits first sets from rarest fewest
+pub rarest_past : (bits : List ℕ) (first : ℕ) (sets : List (List ℕ)) (from to bit : ℕ) (rarest : Option ℕ) (fewest : ℕ) → IsRarestBefore bits first sets from rarest fewest
     → IsFirstPlace (bit_of bits) from to bit → length sets ≤ bit - first → IsRarestOf bits first sets rarest
-rarest_past bits first sets from to bit rarest fewest so is past i j d found j_in on =
-    let size = so.size i d found in
-    let le : fewest ≤ set_size (get_or sets j d) =
+rarest_past bits first sets from to bit rarest fewest so is past i j found j_in on =
+    let size = so.size i found in
+    let le : fewest ≤ set_size (words_at sets j) =
     elim (cases_lt (first + j) from) [
-      | inl before ↦ so.least i j d found j_in before on
+      | inl before ↦ so.least i j found j_in before on
       | inr ge ↦ absurd (true≢false (sym on ∙ is.before (first + j) ge (omega arith)))
     ] in
     rw size le
@@ -402,13 +378,13 @@ column_all bits first n from None so none = λ i lt.
     ]
 column_all bits first n from (Some i) so none = so
 
-pub rarest_all : (bits : List ℕ) (first : ℕ) (sets : List RowSet) (from : ℕ) (rarest : Option ℕ) (fewest : ℕ) → IsRarestBefore bits first sets from rarest fewest
+pub rarest_all : (bits : List ℕ) (first : ℕ) (sets : List (List ℕ)) (from : ℕ) (rarest : Option ℕ) (fewest : ℕ) → IsRarestBefore bits first sets from rarest fewest
     → HoldsNowhere (bit_of bits) from (64 * length bits) → IsRarestOf bits first sets rarest
-rarest_all bits first sets from rarest fewest so none i j d is j_in on =
-    let size = so.size i d is in
-    let le : fewest ≤ set_size (get_or sets j d) =
+rarest_all bits first sets from rarest fewest so none i j is j_in on =
+    let size = so.size i is in
+    let le : fewest ≤ set_size (words_at sets j) =
     elim (cases_lt (first + j) from) [
-      | inl before ↦ so.least i j d is j_in before on
+      | inl before ↦ so.least i j is j_in before on
       | inr ge ↦
           elim (cases_lt (first + j) (64 * length bits)) [
             | inl small ↦ absurd (true≢false (sym on ∙ none (first + j) ge small))

@@ -5,8 +5,8 @@ use Rattle.std.proofs.lemmas.List.{get_or-set_same, get_or-set_other}
 use Rattle.std.proofs.lemmas.Bool.{cases_eq, eq-eqb, ne_eqb}
 use Rattle.cx_base.specs.Literals.{Literal, differ}
 use Rattle.gf2_rows.specs.Bits.{bit_of}
+use Rattle.gf2_rows.specs.Tables.{words_at}
 use Rattle.gf2_matrix.specs.declared.packed.PackedRow.{PackedRow}
-use Rattle.gf2_matrix.specs.declared.by_column.RowSet.{RowSet}
 use Rattle.gf2_matrix.specs.declared.by_column.ByColumn.{ByColumn}
 use Rattle.gf2_matrix.specs.Views.{words_for}
 use Rattle.gf2_matrix.specs.Packed.{Window, window_at, start, takes_pivot, ArePlacesIn, ArePivoted, IsPivotedRow, IsSized, IsMatrix, content}
@@ -19,32 +19,28 @@ use Rattle.gf2_matrix.specs.ByColumn.{AreTurned, HaveRows, IsByColumn, AreByColu
 use Rattle.parity_engine.proofs.Rising.{column-low}
 use Rattle.gf2_matrix.proofs.ByColumns.{differ_kept}
 
-pub element : {A : Type 0} (xs : List A) (i : ℕ) → i < length xs → A
-element [] i lt = absurd (omega arith)
-element (x ∷ xs) i lt = x
-
 -- the chosen rows are those that take the pivot
-pub chosen_takes : (w : Window) (rows : List PackedRow) (c : ByColumn) (row column place : ℕ) (d : RowSet) (chosen : List ℕ) → IsByColumn w rows c → ArePlacesIn rows w.numbers
+pub chosen_takes : (w : Window) (rows : List PackedRow) (c : ByColumn) (row column place : ℕ) (chosen : List ℕ) → IsByColumn w rows c → ArePlacesIn rows w.numbers
     → w.base ≤ column → column - w.base < length w.columns → place < length w.numbers → get_or w.numbers place 0 ≡ row + 1
-    → ((m : ℕ) → bit_of chosen m ≡ (not (eqb m place) && bit_of (get_or c.sets.items (column - w.base) d).words.items m))
+    → ((m : ℕ) → bit_of chosen m ≡ (not (eqb m place) && bit_of (words_at c.sets (column - w.base)) m))
     → (i j : ℕ) (e : PackedRow) → i < length w.numbers → get_or w.numbers i 0 ≡ j + 1
     → bit_of chosen i ≡ takes_pivot row (column - 64 * (w.base / 64)) j (get_or rows j e)
-chosen_takes w rows c row column place d chosen by places low column_in place_in at is i j e lt here =
+chosen_takes w rows c row column place chosen by places low column_in place_in at is i j e lt here =
     let bit : start w + (column - w.base) ≡ column - 64 * (w.base / 64) = omega arith in
     is i
-    ∙ ap (λ b. not (eqb i place) && b) (by.bits (column - w.base) i j d e column_in lt here ∙ ap (bit_of (get_or rows j e).bits.items) bit)
-    ∙ ap (λ b. not b && bit_of (get_or rows j e).bits.items (column - 64 * (w.base / 64)))
+    ∙ ap (λ b. not (eqb i place) && b) (by.bits (column - w.base) i j e column_in lt here ∙ ap (bit_of (get_or rows j e).bits) bit)
+    ∙ ap (λ b. not b && bit_of (get_or rows j e).bits (column - 64 * (w.base / 64)))
     (elim (cases_eq i place) [
       | inl same ↦ eq-eqb i place same ∙ sym (eq-eqb j row (let g = ap (λ k. get_or w.numbers k 0) same in omega arith))
       | inr ne ↦ ne_eqb i place ne ∙ sym (ne_eqb j row (λ q. ne (places.apart i place lt place_in (let g = at in omega arith))))
     ])
 
 -- no place past the numbers is chosen
-pub chosen_within : (w : Window) (rows : List PackedRow) (c : ByColumn) (column place : ℕ) (d : RowSet) (chosen : List ℕ) → IsByColumn w rows c → column < length w.columns
-    → ((m : ℕ) → bit_of chosen m ≡ (not (eqb m place) && bit_of (get_or c.sets.items column d).words.items m))
+pub chosen_within : (w : Window) (rows : List PackedRow) (c : ByColumn) (column place : ℕ) (chosen : List ℕ) → IsByColumn w rows c → column < length w.columns
+    → ((m : ℕ) → bit_of chosen m ≡ (not (eqb m place) && bit_of (words_at c.sets column) m))
     → (m : ℕ) → length w.numbers ≤ m → bit_of chosen m ≡ false
-chosen_within w rows c column place d chosen by column_in is m ge =
-    is m ∙ ap (λ b. not (eqb m place) && b) (by.past column m d column_in ge) ∙ and_false (not (eqb m place))
+chosen_within w rows c column place chosen by column_in is m ge =
+    is m ∙ ap (λ b. not (eqb m place) && b) (by.past column m column_in ge) ∙ and_false (not (eqb m place))
   where
     and_false : (b : Bool) → b && false ≡ false
     and_false true = refl
@@ -55,32 +51,32 @@ and_true true = refl
 and_true false = refl
 
 turned_bit : (takes : Bool) (pivot old new : PackedRow) (k : ℕ) → IsPivotedRow takes pivot old new
-    → differ (bit_of old.bits.items k) (bit_of pivot.bits.items k && takes) ≡ bit_of new.bits.items k
-turned_bit true pivot old new k step = ap (differ (bit_of old.bits.items k)) (and_true (bit_of pivot.bits.items k)) ∙ sym (step.bits k)
-turned_bit false pivot old new k step = differ_kept (bit_of old.bits.items k) (bit_of pivot.bits.items k) ∙ ap (λ (r : PackedRow). bit_of r.bits.items k) (sym step)
+    → differ (bit_of old.bits k) (bit_of pivot.bits k && takes) ≡ bit_of new.bits k
+turned_bit true pivot old new k step = ap (differ (bit_of old.bits k)) (and_true (bit_of pivot.bits k)) ∙ sym (step.bits k)
+turned_bit false pivot old new k step = differ_kept (bit_of old.bits k) (bit_of pivot.bits k) ∙ ap (λ (r : PackedRow). bit_of r.bits k) (sym step)
 
 -- the part of the pivot
 pub turned_after : (w : Window) (rows new : List PackedRow) (c turned : ByColumn) (row bit : ℕ) (pivot : PackedRow) → IsByColumn w rows c
     → ((i j : ℕ) (e : PackedRow) → i < length w.numbers → get_or w.numbers i 0 ≡ j + 1 → bit_of turned.chosen.items i ≡ takes_pivot row bit j (get_or rows j e))
     → ((m : ℕ) → length w.numbers ≤ m → bit_of turned.chosen.items m ≡ false)
     → ArePivoted row bit pivot w.numbers rows new (length w.numbers)
-    → AreTurned turned.chosen.items pivot.bits.items (start w) c.sets.items turned.sets.items (length c.sets.items)
+    → AreTurned (bit_of turned.chosen.items) pivot.bits (start w) c.sets turned.sets (length c.sets)
     → length turned.chosen.items ≡ words_for (length w.numbers) → IsByColumn w new turned
 turned_after w rows new c turned row bit pivot by takes within done are room =
     let count = by.count in
     record {
       count = are.long ∙ by.count;
-      sized = λ i d lt. are.sized i d lt ∙ room;
+      sized = λ i lt. are.same i ∙ by.sized i (let l = are.long in omega arith);
       room = room;
-      bits = λ i m k d e i_in lt at.
-          are.done i m d (omega arith) (omega arith)
-          ∙ ap (λ b. differ b (bit_of pivot.bits.items (start w + i) && bit_of turned.chosen.items m)) (by.bits i m k d e i_in lt at)
-          ∙ ap (λ b. differ (bit_of (get_or rows k e).bits.items (start w + i)) (bit_of pivot.bits.items (start w + i) && b)) (takes m k e lt at)
+      bits = λ i m k e i_in lt at.
+          are.done i m (omega arith) (omega arith)
+          ∙ ap (λ b. differ b (bit_of pivot.bits (start w + i) && bit_of turned.chosen.items m)) (by.bits i m k e i_in lt at)
+          ∙ ap (λ b. differ (bit_of (get_or rows k e).bits (start w + i)) (bit_of pivot.bits (start w + i) && b)) (takes m k e lt at)
           ∙ turned_bit (takes_pivot row bit k (get_or rows k e)) pivot (get_or rows k e) (get_or new k e) (start w + i) (done.done m k e lt at);
-      past = λ i m d i_in ge.
-          are.done i m d (omega arith) (omega arith)
-          ∙ ap (λ b. differ (bit_of (get_or c.sets.items i d).words.items m) (bit_of pivot.bits.items (start w + i) && b)) (within m ge)
-          ∙ differ_kept (bit_of (get_or c.sets.items i d).words.items m) (bit_of pivot.bits.items (start w + i)) ∙ by.past i m d i_in ge;
+      past = λ i m i_in ge.
+          are.done i m (omega arith) (omega arith)
+          ∙ ap (λ b. differ (bit_of (words_at c.sets i) m) (bit_of pivot.bits (start w + i) && b)) (within m ge)
+          ∙ differ_kept (bit_of (words_at c.sets i) m) (bit_of pivot.bits (start w + i)) ∙ by.past i m i_in ge;
     }
 
 -- all parts
@@ -105,9 +101,9 @@ by_column_after vars given columns places windows rows new spares no_columns row
                   count = was.count;
                   sized = was.sized;
                   room = was.room;
-                  bits = λ i m k s e i_in m_in at.
-                      was.bits i m k s e i_in m_in at
-                      ∙ ap (λ (r : PackedRow). bit_of r.bits.items (start (window_at windows q) + i))
+                  bits = λ i m k e i_in m_in at.
+                      was.bits i m k e i_in m_in at
+                      ∙ ap (λ (r : PackedRow). bit_of r.bits (start (window_at windows q) + i))
                       (sym (done.left k e (λ j small is. ne (sym (matrix.members q m k e lt m_in at) ∙ matrix.members p j k e p_in small is))));
                   past = was.past;
                 })
@@ -150,7 +146,7 @@ module _ (vars : ℕ) (given : List (List Literal)) (columns places : List ℕ) 
       subst (λ (v : Window). v.base + length v.columns ≤ MAX_VARIABLE) here (omega arith)
 
   -- a column that the row has
-  pub column_found : (bits : List ℕ) → bits ≡ (get_or rows r d).bits.items → (i : ℕ) → i < length w.columns → bit_of bits (start w + i) ≡ true
+  pub column_found : (bits : List ℕ) → bits ≡ (get_or rows r d).bits → (i : ℕ) → i < length w.columns → bit_of bits (start w + i) ≡ true
       → (w.base + i < length columns) × (has (row_at (content vars given columns windows rows).rows r) (get_or columns (w.base + i) 0 - 1) ≡ true)
   column_found bits bits_are i lt is =
       let p : ℕ = (get_or rows r d).part in
@@ -166,7 +162,7 @@ module _ (vars : ℕ) (given : List (List Literal)) (columns places : List ℕ) 
       )) lt is
 
   -- the row has none
-  pub column_none : (bits : List ℕ) → bits ≡ (get_or rows r d).bits.items → ((i : ℕ) → i < length w.columns → bit_of bits (start w + i) ≡ false)
+  pub column_none : (bits : List ℕ) → bits ≡ (get_or rows r d).bits → ((i : ℕ) → i < length w.columns → bit_of bits (start w + i) ≡ false)
       → (k : ℕ) → k < length columns → has (row_at (content vars given columns windows rows).rows r) (get_or columns k 0 - 1) ≡ false
   column_none bits bits_are none k lt = go (has (row_at (content vars given columns windows rows).rows r) (get_or columns k 0 - 1)) refl
     where

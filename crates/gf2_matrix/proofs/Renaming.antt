@@ -29,7 +29,6 @@ use Rattle.gf2_matrix.proofs.Pivot.{sound_from_sum}
 use Rattle.gf2_matrix.proofs.Rows.{at_row}
 use Rattle.gf2_matrix.proofs.Made.{few_columns}
 use Rattle.gf2_matrix.proofs.Updates.{same_read}
-use Rattle.gf2_matrix.proofs.PivotSets.{element}
 
 pub rise_within : (least n m : ℕ) (ns : List ℕ) → AreRising least n ns → n ≤ m → AreRising least m ns
 rise_within least n m [] rise le = tt
@@ -139,9 +138,9 @@ module _ (names : List ℕ) where
         let many = matrix.windows_are.as_many row.part p_in in
         let long : length (map name w.sources) ≡ length w.sources = length-map w.sources name in
         ap source_numbers (row_new k d lt)
-        ∙ numbers_picked (length given) (map name w.sources) row.sources.items (sources_rise_new row.part p_in) (fits.sources_past (length (map name w.sources)) (omega arith))
-        ∙ picked_names 0 row.sources.items w.sources
-        ∙ ap (map name) (sym (numbers_picked (length (numbered given names)) w.sources row.sources.items (matrix.windows_are.sources_rise row.part p_in) (fits.sources_past (length w.sources) (omega arith))))
+        ∙ numbers_picked (length given) (map name w.sources) row.sources (sources_rise_new row.part p_in) (fits.sources_past (length (map name w.sources)) (omega arith))
+        ∙ picked_names 0 row.sources w.sources
+        ∙ ap (map name) (sym (numbers_picked (length (numbered given names)) w.sources row.sources (matrix.windows_are.sources_rise row.part p_in) (fits.sources_past (length w.sources) (omega arith))))
         ∙ ap (λ r. map name (source_numbers r)) (sym (row_old k d lt))
 
     within_old : (k : ℕ) (d : PackedRow) → k < length rows → AreNumbers (length names) (source_numbers (old k))
@@ -151,11 +150,11 @@ module _ (names : List ℕ) where
         let p_in = matrix.placed k d lt in
         let fits = matrix.fitting k d lt in
         let many = matrix.windows_are.as_many row.part p_in in
-        let is : source_numbers (old k) ≡ picked 0 row.sources.items w.sources =
+        let is : source_numbers (old k) ≡ picked 0 row.sources w.sources =
         ap source_numbers (row_old k d lt)
-        ∙ numbers_picked (length (numbered given names)) w.sources row.sources.items (matrix.windows_are.sources_rise row.part p_in) (fits.sources_past (length w.sources) (omega arith)) in
+        ∙ numbers_picked (length (numbered given names)) w.sources row.sources (matrix.windows_are.sources_rise row.part p_in) (fits.sources_past (length w.sources) (omega arith)) in
         subst (AreNumbers (length names)) (sym is)
-        (picked_within (length names) 0 row.sources.items w.sources 1 (subst (λ n. AreRising 1 n w.sources) as_many_names (matrix.windows_are.sources_rise row.part p_in)) (omega arith))
+        (picked_within (length names) 0 row.sources w.sources 1 (subst (λ n. AreRising 1 n w.sources) as_many_names (matrix.windows_are.sources_rise row.part p_in)) (omega arith))
 
     sum_new : (k : ℕ) (d : PackedRow) → k < length rows → form (new k) ≡ sum_of_numbers given (source_numbers (new k))
     unfolding old
@@ -187,8 +186,8 @@ module _ (names : List ℕ) where
         let w : Window = renamed (window_at windows (get_or rows k (row k lt)).part) in
         let words = get_or rows k (row k lt) in
         subst (IsLong (content vars given columns (map renamed windows) rows)) (sym (row_new k (row k lt) (omega arith))) (
-          length-map-range_with_len (λ x. bit_of words.bits.items (start w + place w.columns (x + 1))) 0 vars,
-          length-map-range_with_len (λ x. bit_of words.sources.items (0 + place w.sources (x + 1))) 0 (length given),
+          length-map-range_with_len (λ x. bit_of words.bits (start w + place w.columns (x + 1))) 0 vars,
+          length-map-range_with_len (λ x. bit_of words.sources (0 + place w.sources (x + 1))) 0 (length given),
         ) in
         record {
           within = within;
@@ -291,6 +290,10 @@ renamed_more names old new n e placed so n_in base columns numbers sources =
           ];
       left = λ p d ge. ap (λ (r : Part). r.sources.items) (other p d (λ same. omega arith)) ∙ so.left p d (omega arith);
     }
+
+element : {A : Type 0} (xs : List A) (i : ℕ) → i < length xs → A
+element [] i lt = absurd (omega arith)
+element (x ∷ xs) i lt = x
 
 pub windows_renamed : (names : List ℕ) (old new : List Part) → AreRenamed names old new (length old) → map window new ≡ map (renamed names) (map window old)
 windows_renamed names old new so =

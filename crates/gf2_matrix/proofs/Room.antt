@@ -90,13 +90,13 @@ module _ (vars : ℕ) (given : List (List Literal)) (columns places : List ℕ) 
 
   -- the row's words are those for its part's columns, which are among all columns
   sizes : (d : PackedRow) (e : Part) → d ≡ get_or rows r d → e ≡ get_or parts d.part e
-      → (e.base + length e.columns.items ≤ length s.columns) × (length d.bits.items ≡ words_for (e.base % 64 + length e.columns.items)) × (length s.columns ≤ MAX_VARIABLE)
+      → (e.base + length e.columns.items ≤ length s.columns) × (length d.bits ≡ words_for (e.base % 64 + length e.columns.items)) × (length s.columns ≤ MAX_VARIABLE)
   sizes d e d_is e_is =
       let row_in = row_within vars given columns (map window parts) rows r s seen lt in
       let here = row_window vars given columns places parts rows spares no_columns matrix r d e row_in d_is e_is in
       let base = ap (λ (w : Window). w.base) here in
       let long = ap (λ (w : Window). length w.columns) here in
-      let same = ap (λ (q : PackedRow). length q.bits.items) d_is in
+      let same = ap (λ (q : PackedRow). length q.bits) d_is in
       let wide = ap (λ (t : Content). length t.columns) seen in
       let room = matrix.windows_are.room (get_or rows r d).part (matrix.placed r d row_in) in
       let sized = (matrix.fitting r d row_in).sized.0 in
@@ -110,24 +110,23 @@ module _ (vars : ℕ) (given : List (List Literal)) (columns places : List ℕ) 
   pub low_fits : (d : PackedRow) (e : Part) → d ≡ get_or rows r d → e ≡ get_or parts d.part e → (first : ℕ) → first ≡ e.base / 64 → Fits w64 (64 * first)
   low_fits d e d_is e_is first is = let h = sizes d e d_is e_is in omega arith
 
-  pub words_fit : (d : PackedRow) (e : Part) → d ≡ get_or rows r d → e ≡ get_or parts d.part e → (size : ℕ) → size ≡ d.bits.len → Fits w64 (64 * size)
-  words_fit d e d_is e_is size is = let h = sizes d e d_is e_is in let counted = d.bits.ok.0 in omega arith
+  pub words_fit : (d : PackedRow) (e : Part) → d ≡ get_or rows r d → e ≡ get_or parts d.part e → (size : ℕ) → size ≡ length d.bits → Fits w64 (64 * size)
+  words_fit d e d_is e_is size is = let h = sizes d e d_is e_is in omega arith
 
-  pub words_few : (d : PackedRow) (e : Part) → d ≡ get_or rows r d → e ≡ get_or parts d.part e → (bits : List ℕ) → bits ≡ d.bits.items → length bits < 2 ^ 32
+  pub words_few : (d : PackedRow) (e : Part) → d ≡ get_or rows r d → e ≡ get_or parts d.part e → (bits : List ℕ) → bits ≡ d.bits → length bits < 2 ^ 32
   words_few d e d_is e_is bits is = let h = sizes d e d_is e_is in let same = ap length is in omega arith
 
-  pub start_within : (d : PackedRow) (e : Part) → d ≡ get_or rows r d → e ≡ get_or parts d.part e → (bits : List ℕ) → bits ≡ d.bits.items → (start : ℕ) → start ≡ e.base % 64
+  pub start_within : (d : PackedRow) (e : Part) → d ≡ get_or rows r d → e ≡ get_or parts d.part e → (bits : List ℕ) → bits ≡ d.bits → (start : ℕ) → start ≡ e.base % 64
       → start ≤ 64 * length bits
   start_within d e d_is e_is bits is start start_is = let h = sizes d e d_is e_is in let same = ap length is in omega arith
 
   pub row_room : (d : PackedRow) (e : Part) → d ≡ get_or rows r d → e ≡ get_or parts d.part e
-      → (mask : List ℕ) → length mask ≡ words_for (length s.columns) → (first size : ℕ) → first ≡ e.base / 64 → size ≡ d.bits.len → HasRoom first size (length mask)
+      → (mask : List ℕ) → length mask ≡ words_for (length s.columns) → (first size : ℕ) → first ≡ e.base / 64 → size ≡ length d.bits → HasRoom first size (length mask)
   row_room d e d_is e_is mask long first size first_is size_is =
       let row_in = row_within vars given columns (map window parts) rows r s seen lt in
       let here = row_window vars given columns places parts rows spares no_columns matrix r d e row_in d_is e_is in
       let base = ap (λ (w : Window). w.base) here in
-      let same = ap (λ (q : PackedRow). length q.bits.items) d_is in
-      let counted = d.bits.ok.0 in
+      let same = ap (λ (q : PackedRow). length q.bits) d_is in
       let wide = ap (λ (t : Content). length t.columns) seen in
       let inside = window_in vars given columns places (map window parts) rows spares no_columns matrix r d row_in in
       let few = matrix.of_given.columns_are.few in

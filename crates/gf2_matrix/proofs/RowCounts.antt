@@ -7,11 +7,11 @@ use Rattle.std.proofs.lemmas.List.Sums.{sum_by-cons, sum_by-append}
 use Rattle.std.proofs.lemmas.Bool.{cases_eq}
 use Rattle.cx_base.specs.Literals.{Literal}
 use Rattle.gf2_rows.specs.Bits.{bit_of, bits_of}
+use Rattle.gf2_rows.specs.Tables.{words_at}
 use Rattle.gf2_rows.proofs.Words.{range_same, range_split, count_of_map}
 use Rattle.parity_engine.specs.Written.{AreRising}
 use Rattle.parity_engine.proofs.Rising.{columns_rise, column-low, column-high, rises-least}
 use Rattle.gf2_matrix.specs.declared.packed.PackedRow.{PackedRow}
-use Rattle.gf2_matrix.specs.declared.by_column.RowSet.{RowSet}
 use Rattle.gf2_matrix.specs.declared.by_column.ByColumn.{ByColumn}
 use Rattle.gf2_matrix.specs.Content.{SourcedRow, IsColumnSet, has, no_row, row_at, rows_with}
 use Rattle.gf2_matrix.specs.Packed.{Window, window_at, start, IsMatrix, content, unpacked}
@@ -19,7 +19,7 @@ use Rattle.gf2_matrix.specs.ByColumn.{IsByColumn, set_size}
 use Rattle.gf2_matrix.proofs.Made.{few_columns}
 use Rattle.gf2_matrix.proofs.Choosing.{rise_to}
 use Rattle.gf2_matrix.proofs.Rows.{column_bit, pivot_at}
-use Rattle.gf2_matrix.proofs.PivotSets.{element, column_found}
+use Rattle.gf2_matrix.proofs.PivotSets.{column_found}
 use Rattle.gf2_matrix.proofs.Windows.{peer_listed}
 
 -- ---- counts
@@ -106,7 +106,7 @@ count_spread g (m ∷ ms) a (suc n) rise listed =
 -- ---- the rows of a set
 module _ (vars : ℕ) (given : List (List Literal)) (columns places : List ℕ) (windows : List Window) (rows spares : List PackedRow) (no_columns : List ℕ)
     (matrix : IsMatrix vars given columns places windows rows spares no_columns) (r : ℕ) (d : PackedRow) (r_in : r < length rows) (w : Window)
-    (here : window_at windows (get_or rows r d).part ≡ w) (c : ByColumn) (by : IsByColumn w rows c) (i : ℕ) (i_in : i < length w.columns) (s : RowSet)
+    (here : window_at windows (get_or rows r d).part ≡ w) (c : ByColumn) (by : IsByColumn w rows c) (i : ℕ) (i_in : i < length w.columns)
     (on : has (row_at (content vars given columns windows rows).rows r) (get_or w.columns i 0 - 1) ≡ true) where
   all : List SourcedRow
   all = (content vars given columns windows rows).rows
@@ -115,7 +115,7 @@ module _ (vars : ℕ) (given : List (List Literal)) (columns places : List ℕ) 
   x = get_or w.columns i 0 - 1
 
   words : List ℕ
-  words = (get_or c.sets.items i s).words.items
+  words = words_at c.sets i
 
   has_x : ℕ → Bool
   has_x k = has (row_at all k) x
@@ -140,9 +140,9 @@ module _ (vars : ℕ) (given : List (List Literal)) (columns places : List ℕ) 
       let part : (get_or rows k d).part ≡ p =
       subst (λ (v : Window). m < length v.numbers → get_or v.numbers m 0 ≡ k + 1 → (get_or rows k d).part ≡ p) here (matrix.members p m k d (matrix.placed r d r_in)) m_in at in
       let there : window_at windows (get_or rows k d).part ≡ w = ap (window_at windows) part ∙ here in
-      by.bits i m k s d i_in m_in at
+      by.bits i m k d i_in m_in at
       ∙ subst (λ (v : Window). i < length v.columns
-      → bit_of (get_or rows k d).bits.items (start v + i) ≡ has (row_at (content vars given columns windows rows).rows k) (get_or v.columns i 0 - 1)) there
+      → bit_of (get_or rows k d).bits (start v + i) ≡ has (row_at (content vars given columns windows rows).rows k) (get_or v.columns i 0 - 1)) there
       (column_bit vars given columns places windows rows spares no_columns matrix k d k_in i) i_in
 
   -- each row that has the column has a number
@@ -154,19 +154,19 @@ module _ (vars : ℕ) (given : List (List Literal)) (columns places : List ℕ) 
 
   room : length w.numbers ≤ 64 * length words
   unfolding words
-  room = let count = by.count in let size = by.sized i s (omega arith) in omega arith
+  room = let count = by.count in let size = by.sized i (omega arith) in omega arith
 
   counted : count_by (λ b. b) (bits_of words) ≡ count_by (bit_of words) (range_with_len 0 (64 * length words))
   unfolding bits_of
   counted = count_of_map (bit_of words) (range_with_len 0 (64 * length words))
 
   -- the set has as many rows as have the column
-  pub rows_of_set : set_size (get_or c.sets.items i s) ≡ rows_with (content vars given columns windows rows).rows (get_or w.columns i 0 - 1)
+  pub rows_of_set : set_size (words_at c.sets i) ≡ rows_with (content vars given columns windows rows).rows (get_or w.columns i 0 - 1)
   unfolding all x words has_x
   rows_of_set =
       let g : ℕ → Bool = has_x in
       counted
-      ∙ count_cut (bit_of words) (length w.numbers) (64 * length words) room (λ m ge lt. by.past i m s i_in ge)
+      ∙ count_cut (bit_of words) (length w.numbers) (64 * length words) room (λ m ge lt. by.past i m i_in ge)
       ∙ count_same (bit_of words) (λ m. g (get_or w.numbers m 0 - 1)) 0 (length w.numbers)
       (λ m ge lt.
       let m_in : m < length w.numbers = omega arith in
@@ -178,10 +178,10 @@ module _ (vars : ℕ) (given : List (List Literal)) (columns places : List ℕ) 
       ∙ sym (count_by_place (λ (row : SourcedRow). has row x) all no_row)
 
   -- the part's numbers and the set's words are those of the column
-  pub column_set : IsColumnSet (content vars given columns windows rows).rows (get_or w.columns i 0 - 1) w.numbers (get_or c.sets.items i s).words.items
+  pub column_set : IsColumnSet (content vars given columns windows rows).rows (get_or w.columns i 0 - 1) w.numbers (words_at c.sets i)
   unfolding all x words has_x
   column_set =
-      let size = by.sized i s (let count = by.count in omega arith) in
+      let size = by.sized i (let count = by.count in omega arith) in
       let few = few_columns (length rows) w.numbers rise in
       record {
         rise = columns_rise 1 (length rows) w.numbers rise;
@@ -205,8 +205,8 @@ module _ (vars : ℕ) (given : List (List Literal)) (columns places : List ℕ) 
       (at.0, at.1, at.2, ap (λ j. get_or columns j 0) at.2 ∙ matrix.windows_are.read (get_or rows r d).part at.0 (matrix.placed r d r_in) at.1)
 
   -- none of them stands in fewer rows than the one whose set has no more rows than theirs
-  pub rarest_of_row : (bits : List ℕ) → bits ≡ (get_or rows r d).bits.items → (i : ℕ) → i < length w.columns → bit_of bits (start w + i) ≡ true
-      → ((j : ℕ) (s : RowSet) → j < length c.sets.items → bit_of bits (start w + j) ≡ true → set_size (get_or c.sets.items i s) ≤ set_size (get_or c.sets.items j s))
+  pub rarest_of_row : (bits : List ℕ) → bits ≡ (get_or rows r d).bits → (i : ℕ) → i < length w.columns → bit_of bits (start w + i) ≡ true
+      → ((j : ℕ) → j < length c.sets → bit_of bits (start w + j) ≡ true → set_size (words_at c.sets i) ≤ set_size (words_at c.sets j))
       → (k : ℕ) → k < length columns → has (row_at (content vars given columns windows rows).rows r) (get_or columns k 0 - 1) ≡ true
       → rows_with (content vars given columns windows rows).rows (get_or columns (w.base + i) 0 - 1) ≤ rows_with (content vars given columns windows rows).rows (get_or columns k 0 - 1)
   rarest_of_row bits bits_are i i_in set_i least k k_in on_k =
@@ -221,15 +221,14 @@ module _ (vars : ℕ) (given : List (List Literal)) (columns places : List ℕ) 
       let on_j : has (row_at all r) (get_or w.columns j 0 - 1) ≡ true = ap (λ v. has (row_at all r) (v - 1)) (sym second.3) ∙ on_k in
       let set_j : bit_of bits (start w + j) ≡ true =
       ap (λ ws. bit_of ws (start w + j)) bits_are
-      ∙ subst (λ (v : Window). j < length v.columns → bit_of (get_or rows r d).bits.items (start v + j) ≡ has (row_at all r) (get_or v.columns j 0 - 1)) here
+      ∙ subst (λ (v : Window). j < length v.columns → bit_of (get_or rows r d).bits (start v + j) ≡ has (row_at all r) (get_or v.columns j 0 - 1)) here
       (column_bit vars given columns places windows rows spares no_columns matrix r d r_in j) j_in
       ∙ on_j in
       let count = by.count in
-      let s : RowSet = element c.sets.items i (omega arith) in
       let size_i =
-      rows_of_set vars given columns places windows rows spares no_columns matrix r d r_in w here c by i i_in s (ap (λ v. has (row_at all r) (v - 1)) (sym read_i) ∙ found.1) in
-      let size_j = rows_of_set vars given columns places windows rows spares no_columns matrix r d r_in w here c by j j_in s on_j in
-      let le = least j s (omega arith) set_j in
-      let e_i : rows_with all (get_or columns (w.base + i) 0 - 1) ≡ set_size (get_or c.sets.items i s) = ap (λ v. rows_with all (v - 1)) read_i ∙ sym size_i in
-      let e_j : rows_with all (get_or columns k 0 - 1) ≡ set_size (get_or c.sets.items j s) = ap (λ v. rows_with all (v - 1)) second.3 ∙ sym size_j in
+      rows_of_set vars given columns places windows rows spares no_columns matrix r d r_in w here c by i i_in (ap (λ v. has (row_at all r) (v - 1)) (sym read_i) ∙ found.1) in
+      let size_j = rows_of_set vars given columns places windows rows spares no_columns matrix r d r_in w here c by j j_in on_j in
+      let le = least j (omega arith) set_j in
+      let e_i : rows_with all (get_or columns (w.base + i) 0 - 1) ≡ set_size (words_at c.sets i) = ap (λ v. rows_with all (v - 1)) read_i ∙ sym size_i in
+      let e_j : rows_with all (get_or columns k 0 - 1) ≡ set_size (words_at c.sets j) = ap (λ v. rows_with all (v - 1)) second.3 ∙ sym size_j in
       rw (e_i, e_j) le

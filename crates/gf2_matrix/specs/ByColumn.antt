@@ -1,28 +1,28 @@
 -- Parts by columns.
-use Rattle.std.specs.Prelude.{◌≡◌, ℕ, ◌+◌, ◌-◌, ◌<◌, ◌≤◌, true, false, ◌&&◌, List, length, Option, Some, None, slice_index, slice_index_or}
+use Rattle.std.specs.Prelude.{◌≡◌, ℕ, ◌+◌, ◌-◌, ◌<◌, ◌≤◌, Bool, true, false, ◌&&◌, List, length, Option, Some, None, slice_index, slice_index_or}
 use Rattle.cx_base.specs.Literals.{Literal, differ}
 use Rattle.std.specs.List.{count_by}
 use Rattle.gf2_rows.specs.Bits.{bit_of, bits_of}
+use Rattle.gf2_rows.specs.Tables.{words_at}
 use Rattle.gf2_matrix.specs.declared.packed.PackedRow.{PackedRow}
-use Rattle.gf2_matrix.specs.declared.by_column.RowSet.{RowSet}
 use Rattle.gf2_matrix.specs.declared.by_column.ByColumn.{ByColumn}
 use Rattle.gf2_matrix.specs.Views.{words_for}
 use Rattle.gf2_matrix.specs.Packed.{Window, window_at, start, IsSized, IsMatrix}
 
 -- each set has so many words
-abbrev pub AreSized : ℕ → List RowSet → Type 0
-AreSized words sets = (i : ℕ) (d : RowSet) → i < length sets → length (slice_index_or sets i d).words.items ≡ words
+abbrev pub AreSized : ℕ → List (List ℕ) → Type 0
+AreSized words sets = (i : ℕ) → i < length sets → length (words_at sets i) ≡ words
 
 -- no set has a row
-abbrev pub AreClear : List RowSet → Type 0
-AreClear sets = (i m : ℕ) (d : RowSet) → i < length sets → bit_of (slice_index_or sets i d).words.items m ≡ false
+abbrev pub AreClear : List (List ℕ) → Type 0
+AreClear sets = (i m : ℕ) → i < length sets → bit_of (words_at sets i) m ≡ false
 
 -- the chosen rows are turned over in the first n sets, where the bits have the column
-pub record AreTurned (chosen bits : List ℕ) (first : ℕ) (old new : List RowSet) (n : ℕ) : Type 0 where
+pub record AreTurned (chosen : ℕ → Bool) (bits : List ℕ) (first : ℕ) (old new : List (List ℕ)) (n : ℕ) : Type 0 where
   pub long : length new ≡ length old
-  pub sized : AreSized (length chosen) new
-  pub done : (i m : ℕ) (d : RowSet) → i < n → i < length old → bit_of (slice_index_or new i d).words.items m ≡ differ (bit_of (slice_index_or old i d).words.items m) (bit_of bits (first + i) && bit_of chosen m)
-  pub left : (i : ℕ) (d : RowSet) → n ≤ i → slice_index_or new i d ≡ slice_index_or old i d
+  pub same : (i : ℕ) → length (words_at new i) ≡ length (words_at old i)
+  pub done : (i m : ℕ) → i < n → i < length old → bit_of (words_at new i) m ≡ differ (bit_of (words_at old i) m) (bit_of bits (first + i) && chosen m)
+  pub left : (i : ℕ) → n ≤ i → words_at new i ≡ words_at old i
 
 -- one of the first n columns, where the bits have it, if they have any
 abbrev pub IsColumnOf : List ℕ → ℕ → ℕ → Option ℕ → Type 0
@@ -30,13 +30,13 @@ IsColumnOf bits first n None = (i : ℕ) → i < n → bit_of bits (first + i) �
 IsColumnOf bits first n (Some i) = (i < n) × (bit_of bits (first + i) ≡ true)
 
 -- how many rows the set has
-abbrev pub set_size : RowSet → ℕ
-set_size s = count_by (λ b. b) (bits_of s.words.items)
+abbrev pub set_size : List ℕ → ℕ
+set_size set = count_by (λ b. b) (bits_of set)
 
 -- of the columns that the bits have, of which the first has bit `first`, none has fewer rows
-abbrev pub IsRarestOf : List ℕ → ℕ → List RowSet → Option ℕ → Type 0
+abbrev pub IsRarestOf : List ℕ → ℕ → List (List ℕ) → Option ℕ → Type 0
 IsRarestOf bits first sets found =
-    (i j : ℕ) (d : RowSet) → found ≡ Some i → j < length sets → bit_of bits (first + j) ≡ true → set_size (slice_index_or sets i d) ≤ set_size (slice_index_or sets j d)
+    (i j : ℕ) → found ≡ Some i → j < length sets → bit_of bits (first + j) ≡ true → set_size (words_at sets i) ≤ set_size (words_at sets j)
 
 -- the rows of the window's numbers are there, and have its words
 pub record HaveRows (w : Window) (rows : List PackedRow) : Type 0 where
@@ -46,12 +46,12 @@ pub record HaveRows (w : Window) (rows : List PackedRow) : Type 0 where
 
 -- the set of each column has the rows that have the column, and no others
 pub record IsByColumn (w : Window) (rows : List PackedRow) (c : ByColumn) : Type 0 where
-  pub count : length c.sets.items ≡ length w.columns
-  pub sized : AreSized (words_for (length w.numbers)) c.sets.items
+  pub count : length c.sets ≡ length w.columns
+  pub sized : AreSized (words_for (length w.numbers)) c.sets
   pub room : length c.chosen.items ≡ words_for (length w.numbers)
-  pub bits : (i m k : ℕ) (d : RowSet) (e : PackedRow) → i < length w.columns → m < length w.numbers → slice_index w.numbers m ≡ k + 1
-      → bit_of (slice_index_or c.sets.items i d).words.items m ≡ bit_of (slice_index_or rows k e).bits.items (start w + i)
-  pub past : (i m : ℕ) (d : RowSet) → i < length w.columns → length w.numbers ≤ m → bit_of (slice_index_or c.sets.items i d).words.items m ≡ false
+  pub bits : (i m k : ℕ) (e : PackedRow) → i < length w.columns → m < length w.numbers → slice_index w.numbers m ≡ k + 1
+      → bit_of (words_at c.sets i) m ≡ bit_of (slice_index_or rows k e).bits (start w + i)
+  pub past : (i m : ℕ) → i < length w.columns → length w.numbers ≤ m → bit_of (words_at c.sets i) m ≡ false
 
 -- the first n windows by columns
 pub record AreByColumn (windows : List Window) (rows : List PackedRow) (by_columns : List ByColumn) (n : ℕ) : Type 0 where

@@ -4,10 +4,11 @@ ghost use Rattle.gf2_matrix.specs.Content.{IsColumnSet, IsNextWith, IsPlaceOf, S
 ghost use Rattle.parity_engine.specs.Written.{Rises};
 
 use crate::picked::next_picked;
+use gf2_rows::WordRow;
 
 /// The row of the first of the numbers, from this place on, that has its bit, and the place after it. The numbers are
 /// those of rows, from 1 and rising, and the bits say which of these rows have a column.
-pub fn next_in_set(numbers: &[u32], words: &[u64], from: usize) -> Option<(usize, usize)>
+pub fn next_in_set(numbers: &[u32], words: &WordRow<'_>, from: usize) -> Option<(usize, usize)>
     requires rise { Rises 1 numbers.now }
     requires few { length words.now < 2 ^ 32 }
     requires room { length numbers.now ≤ 64 * length words.now }

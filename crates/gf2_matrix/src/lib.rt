@@ -3,8 +3,8 @@
 //! A [`Matrix`] is made of parities: a column for each variable that occurs in a normal form, and a row for each
 //! parity. Each row keeps a bit for each given parity that it is the sum of, through every pivot. Parities that
 //! share variables, directly or by others between them, make up a part, and a row has words for the columns and the
-//! parities of its part alone. [`Matrix::make_of_independent`] gives rows only to parities that say what all of them
-//! say. A [`RowView`] looks at a row.
+//! parities of its part alone, in tables where few words take little room. [`Matrix::make_of_independent`] gives rows
+//! only to parities that say what all of them say. A [`RowView`] looks at a row.
 #![tactic(auto)]
 
 mod by_column;
@@ -18,6 +18,7 @@ mod matrix;
 mod packed;
 mod picked;
 mod renamed;
+mod row_tables;
 mod sources;
 mod span;
 mod view;

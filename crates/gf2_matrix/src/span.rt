@@ -1,12 +1,10 @@
 //! The words of a row from the first to the last that is not zero.
 ghost use Rattle.std.specs.Prelude.{◌≡◌, ℕ, ◌<◌, ◌≤◌, length, slice_index};
-ghost use Rattle.cx_base.specs.Literals.{differ};
-ghost use Rattle.gf2_rows.specs.Bits.{bit_of};
-ghost use Rattle.gf2_matrix.specs.Spans.{IsSpan};
+ghost use Rattle.gf2_rows.specs.Tables.{IsZeroOutside};
 
 /// The place of the first word that is not zero, and the place after the last one.
 pub(crate) fn span_of(words: &[u64]) -> (usize, usize)
-    ensures { IsSpan words.now result.0 result.1 }
+    ensures { IsZeroOutside words.now result.0 result.1 }
 {
     let low = first_of(words);
     (low, end_of(words, low))
@@ -41,14 +39,4 @@ fn end_of(words: &[u64], low: usize) -> usize
         end -= 1;
     }
     low
-}
-
-/// Adds `other`, which has no word that is not zero but within the span.
-pub(crate) fn add_span(row: &mut [u64], other: &[u64], span: (usize, usize))
-    requires same { length row.old ≡ length other.now }
-    requires span { IsSpan other.now span.0 span.1 }
-    ensures { (m : ℕ) → bit_of row.new m ≡ differ (bit_of row.old m) (bit_of other.now m) }
-{
-    let (low, high) = span;
-    gf2_rows::add_into(&mut row[low..high], &other[low..high]);
 }

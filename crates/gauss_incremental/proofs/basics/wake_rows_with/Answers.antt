@@ -6,16 +6,16 @@ use Rattle.gauss_incremental.proofs.basics.wake_rows_with.Goals as goal
 
 pub loop-other-init : goal.loop-other-init
 loop-other-init c =
-    (omega arith, (0, omega arith, first_place c.column_set.result.0.now c.column_set.ensures.set.rise, awake_none c.args.matrix.now c.args.column c.args.line.now))
+    (omega arith, (0, omega arith, first_place c.column_set-words.result.0.now c.column_set-words.ensures.set.rise, awake_none c.args.matrix.now c.args.column c.args.line.now))
 
 pub next_in_set-requires-clause-rise : goal.next_in_set-requires-clause-rise
-next_in_set-requires-clause-rise c = c.column_set.ensures.set.rise
+next_in_set-requires-clause-rise c = c.column_set-words.ensures.set.rise
 
 pub next_in_set-requires-clause-few : goal.next_in_set-requires-clause-few
-next_in_set-requires-clause-few c = c.column_set.ensures.set.few
+next_in_set-requires-clause-few c = c.column_set-words.ensures.set.few
 
 pub next_in_set-requires-clause-room : goal.next_in_set-requires-clause-room
-next_in_set-requires-clause-room c = c.column_set.ensures.set.room
+next_in_set-requires-clause-room c = c.column_set-words.ensures.set.room
 
 pub next_in_set-requires-clause-within : goal.next_in_set-requires-clause-within
 next_in_set-requires-clause-within c = c.loop-other.invariant.0
@@ -23,13 +23,13 @@ next_in_set-requires-clause-within c = c.loop-other.invariant.0
 pub push-requires : goal.push-requires
 push-requires c =
     let so = c.loop-other.invariant.1 in
-    let next = (c.in-Some.ensures.some c.args.matrix.now.rows _ so.0 c.column_set.ensures.set so.2).0 in
+    let next = (c.in-Some.ensures.some c.args.matrix.now.rows _ so.0 c.column_set-words.ensures.set so.2).0 in
     subst (λ n. c.in-Some.other < n) (sym (so.3.long ∙ c.requires.same)) next.1
 
 pub loop-other-preserved : goal.loop-other-preserved
 loop-other-preserved c =
     let so = c.loop-other.invariant.1 in
-    let next = c.in-Some.ensures.some c.args.matrix.now.rows _ so.0 c.column_set.ensures.set so.2 in (
+    let next = c.in-Some.ensures.some c.args.matrix.now.rows _ so.0 c.column_set-words.ensures.set so.2 in (
       c.in-Some.ensures.near.1,
       (
         c.in-Some.other + 1,
@@ -45,4 +45,4 @@ loop-other-smaller c = let low = c.in-Some.ensures.near.0 in let high = c.in-Som
 pub returns : goal.returns
 returns c =
     let so = c.loop-other.invariant.1 in
-    awake_all c.args.matrix.now c.args.column c.args.line.now c.loop-other.line so.0 so.3 so.1 (c.in_default.ensures.none c.args.matrix.now.rows _ so.0 c.column_set.ensures.set so.2) c.requires.same
+    awake_all c.args.matrix.now c.args.column c.args.line.now c.loop-other.line so.0 so.3 so.1 (c.in_default.ensures.none c.args.matrix.now.rows _ so.0 c.column_set-words.ensures.set so.2) c.requires.same

@@ -3,4 +3,4 @@ use Rattle.gf2_matrix.proofs.ByColumns.{AreEntered}
 use Rattle.gf2_matrix.proofs.by_column.by_column.Given as goal
 
 abbrev pub invariant-loop-place : goal.invariant-loop-place
-invariant-loop-place l = AreEntered (window l.part) l.rows l.sets.items l.chosen.items l.place
+invariant-loop-place l = AreEntered (window l.part) l.rows l.sets l.place

@@ -1,36 +1,40 @@
-use Rattle.std.proofs.Common.{◌∙◌, ◌-◌, ◌*◌, ◌<◌, sym, ap, length, get_or, arith}
-use Rattle.std.proofs.lemmas.List.{with_items_is}
-use Rattle.cx_base.specs.Literals.{differ}
+use Rattle.std.proofs.Common.{◌∙◌, ◌-◌, ◌*◌, ◌<◌, sym, ap, subst, length, arith}
 use Rattle.gf2_rows.specs.Bits.{bit_of}
-use Rattle.gf2_matrix.proofs.ByColumns.{turned_past, turned_all, turned_next}
+use Rattle.gf2_rows.specs.Tables.{words_at}
+use Rattle.gf2_rows.proofs.Words.{bit_of_sum}
+use Rattle.gf2_matrix.proofs.ByColumns.{turned_none, turned_past, turned_all, turned_next}
 use Rattle.gf2_matrix.proofs.by_column.turn_sets.Goals as goal
 
-pub returns-then-column-sets : goal.returns-then-column-sets
-returns-then-column-sets c =
-    turned_past c.args.chosen.now c.args.bits.now c.args.start c.args.sets.now c.loop-bit.sets c.loop-bit.from (64 * length c.args.bits.now) c.in-Some.bit c.loop-bit.invariant.2 c.loop-bit.invariant.0
-    c.in-Some.ensures.1 (let t = c.if-column-sets.true in omega arith)
+pub returns-then-column-rows : goal.returns-then-column-rows
+returns-then-column-rows c =
+    turned_past (bit_of c.args.chosen.now) c.args.bits.now c.args.start c.args.sets.now c.loop-bit.sets c.loop-bit.from c.loop-bit.invariant.2 c.loop-bit.invariant.0
+    (64 * length c.args.bits.now) c.in-Some.bit c.in-Some.ensures.1 (let t = c.if-column-rows.true in let e = c.rows.ensures in omega arith)
 
 pub loop-bit-preserved : goal.loop-bit-preserved
 loop-bit-preserved c =
     let n = c.in-Some.bit - c.args.start in
-    let d = c.index-sets-column.result in
-    let words = (get_or c.loop-bit.sets n d).words in
     let turned = c.loop-bit.invariant.2 in
-    let in' : n < length c.loop-bit.sets = let f = c.if-column-sets.false in omega arith in
+    let in' : n < length c.loop-bit.sets = let f = c.if-column-rows.false in let e = c.rows.ensures in omega arith in
     let at = c.in-Some.ensures.1.low in
     let low = c.loop-bit.invariant.0 in
     let within = c.in-Some.ensures.0 in
-    let long = c.add_span.auto.row ∙ ap length c.deref_mut.ensures.value in
-    let is = with_items_is words c.add_span.new.row (long ∙ sym words.ok.0) in
-    let alike = ap length c.deref_mut.ensures.value ∙ turned.sized n d in' in (
+    let change = c.add_span.ensures.changed in (
       omega arith,
       omega arith,
-      turned_next c.args.chosen.now c.args.bits.now c.args.start c.args.sets.now c.loop-bit.sets c.loop-bit.from (64 * length c.args.bits.now) c.in-Some.bit _ d turned low
-          c.in-Some.ensures.1 within in' (ap length is ∙ c.add_span.auto.row ∙ alike)
-          (λ m. ap (λ ws. bit_of ws m) is ∙ c.add_span.ensures m
-          ∙ ap (λ ws. differ (bit_of ws m) (bit_of c.args.chosen.now m)) c.deref_mut.ensures.value),
+      turned_next (bit_of c.args.chosen.now) c.args.bits.now c.args.start c.args.sets.now c.loop-bit.sets c.loop-bit.from turned low (64 * length c.args.bits.now) c.in-Some.bit c.add_span.new.self
+          c.in-Some.ensures.1 within in' change
+          (bit_of_sum (words_at c.add_span.new.self n) (words_at c.loop-bit.sets n) c.args.chosen.now change.words (turned.same n ∙ c.requires.sized n (let l = turned.long in omega arith)) c.add_span.ensures.sum),
     )
+
+pub add_span-requires-clause-same : goal.add_span-requires-clause-same
+add_span-requires-clause-same c =
+    let n = c.in-Some.bit - c.args.start in
+    let turned = c.loop-bit.invariant.2 in
+    let f = c.if-column-rows.false in
+    let e = c.rows.ensures in
+    let l = turned.long in
+    sym (turned.same n ∙ c.requires.sized n (omega arith))
 
 pub returns : goal.returns
 returns c =
-    turned_all c.args.chosen.now c.args.bits.now c.args.start c.args.sets.now c.loop-bit.sets c.loop-bit.from c.loop-bit.invariant.2 c.loop-bit.invariant.0 c.in_default.ensures
+    turned_all (bit_of c.args.chosen.now) c.args.bits.now c.args.start c.args.sets.now c.loop-bit.sets c.loop-bit.from c.loop-bit.invariant.2 c.loop-bit.invariant.0 c.in_default.ensures

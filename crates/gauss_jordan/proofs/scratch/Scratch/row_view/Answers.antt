@@ -21,7 +21,7 @@ new-requires c =
     let some = named_row c.args.self.now c.args.row c.requires in
     let seen = slot_seen m.matrix m.level m.held.items m.assigned.items m.truths.items m.slots.items m.mood c.self.invariant.is c.args.row slot some.0
     (subst (λ (t : State). named_at t c.args.row ≡ Some some.0) (sym c.self.view_is) some.1) in
-    rw (c.vars.ensures.is, c.deref.ensures.value, c.self.invariant.variables_are, c.deref-2.ensures.value)
+    rw (c.vars.ensures.is, c.deref.ensures.value, c.self.invariant.variables_are, c.whole.ensures, c.deref-2.ensures.value)
     (slot_view m.matrix slot (let i = c.self.invariant.is in i.few) (subst (λ (e : RowSlot). IsSlotOf m.matrix e) (at s) seen.0))
 
 pub returns : goal.returns
@@ -32,5 +32,5 @@ returns c n named =
     let seen = slot_seen m.matrix m.level m.held.items m.assigned.items m.truths.items m.slots.items m.mood c.self.invariant.is c.args.row slot n
     (subst (λ (t : State). named_at t c.args.row ≡ Some n) (sym c.self.view_is) named) in
     c.new.ensures
-    ∙ (λ i. viewed_form (c.vars.ensures.is i) ((c.deref.ensures.value ∙ c.self.invariant.variables_are) i) 0 (c.deref-2.ensures.value i) slot.right)
+    ∙ (λ i. viewed_form (c.vars.ensures.is i) ((c.deref.ensures.value ∙ c.self.invariant.variables_are) i) 0 ((c.whole.ensures ∙ c.deref-2.ensures.value) i) slot.right)
     ∙ slot_form m.matrix slot ∙ ap (λ (e : RowSlot). form (row_of m.matrix e)) (sym (at s)) ∙ seen.1

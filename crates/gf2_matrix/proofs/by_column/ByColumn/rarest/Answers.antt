@@ -1,8 +1,6 @@
 use Rattle.std.proofs.Common.{◌≡◌, ℕ, ◌∙◌, ◌<◌, ◌≤◌, ◌+◌, ◌-◌, not, List, length, get_or, Option, Some, sym, ap, subst, arith, true≢false}
 use Rattle.std.specs.Option.{is_some}
-use Rattle.std.specs.List.{count_by}
-use Rattle.gf2_rows.specs.Bits.{bits_of}
-use Rattle.gf2_matrix.specs.declared.by_column.RowSet.{RowSet}
+use Rattle.gf2_rows.specs.Tables.{words_at}
 use Rattle.gf2_matrix.specs.ByColumn.{set_size}
 use Rattle.gf2_matrix.proofs.Steps.{later, later_still, nearer, up_to, bit_step_fits}
 use Rattle.gf2_matrix.proofs.ByColumns.{IsRarestBefore, rarest_none, rarest_taken, rarest_stays, column_past, rarest_past, column_all, rarest_all}
@@ -18,35 +16,33 @@ next_one-requires-clause-within c = c.loop-bit.invariant.1
 pub overflow_sub-column : goal.overflow_sub-column
 overflow_sub-column c = later c.loop-bit.invariant.0 c.in-Some.ensures.1.low
 
-pub index-requires : goal.index-requires
-index-requires c = subst (λ n. c.in-Some.bit - c.args.start < n) c.len.ensures c.if-column-len.false
+pub row-requires : goal.row-requires
+row-requires c = subst (λ n. c.in-Some.bit - c.args.start < n) c.rows.ensures c.if-column-rows.false
 
 pub ones-rows-requires : goal.ones-rows-requires
 ones-rows-requires c =
-    let sets = c.args.self.now.sets in
-    let in' = subst (λ n. c.in-Some.bit - c.args.start < n) (c.len.ensures ∙ sets.ok.0) c.if-column-len.false in
-    subst (λ n. n < 4294967296) (sym (ap length c.deref.ensures.value ∙ ap (λ (s : RowSet). length s.words.items) c.index.ensures
-    ∙ c.requires.sized (c.in-Some.bit - c.args.start) c.index.result.now in')) c.requires.room
+    let in' = subst (λ n. c.in-Some.bit - c.args.start < n) c.rows.ensures c.if-column-rows.false in
+    subst (λ n. n < 4294967296) (sym (ap length c.row.ensures ∙ c.requires.sized (c.in-Some.bit - c.args.start) in')) c.requires.room
 
 pub overflow_add-from : goal.overflow_add-from
 overflow_add-from c = bit_step_fits c.in-Some.ensures.0 c.requires.few
 
 pub loop-bit-init : goal.loop-bit-init
-loop-bit-init c = (omega arith, c.requires.within, rarest_none c.args.bits.now c.args.start c.args.self.now.sets.items)
+loop-bit-init c = (omega arith, c.requires.within, rarest_none c.args.bits.now c.args.start c.args.self.now.sets)
 
 pub loop-bit-preserved : goal.loop-bit-preserved
 loop-bit-preserved c =
     let bits = c.args.bits.now in
     let first = c.args.start in
-    let sets = c.args.self.now.sets.items in
+    let sets = c.args.self.now.sets in
     let bit = c.in-Some.bit in
     let rows = c.ones-rows.result in
     let so = c.loop-bit.invariant.2 in
     let within = c.in-Some.ensures.0 in
     let is = c.in-Some.ensures.1 in
     let low = later c.loop-bit.invariant.0 is.low in
-    let in' = subst (λ n. bit - first < n) (c.len.ensures ∙ c.args.self.now.sets.ok.0) c.if-column-len.false in
-    let size : rows ≡ set_size (get_or sets (bit - first) c.index.result.now) = c.ones-rows.ensures ∙ ap (λ (ws : List ℕ). count_by (λ b. b) (bits_of ws)) c.deref.ensures.value ∙ ap set_size c.index.ensures in
+    let in' = subst (λ n. bit - first < n) c.rows.ensures c.if-column-rows.false in
+    let size : rows ≡ set_size (words_at sets (bit - first)) = c.ones-rows.ensures ∙ ap set_size c.row.ensures in
     let none = c.is_none.ensures in (
       later_still c.loop-bit.invariant.0 is.low,
       up_to within,
@@ -59,33 +55,33 @@ loop-bit-preserved c =
             ] in
             subst (λ (r : Option ℕ). IsRarestBefore bits first sets (bit + 1) r c.if-is_none.fewest) (sym w.rarest-is)
             (subst (λ n. IsRarestBefore bits first sets (bit + 1) (Some (bit - first)) n) (sym w.fewest-is)
-            (rarest_taken bits first sets c.loop-bit.from _ bit c.loop-bit.rarest c.loop-bit.fewest rows c.index.result.now so is within low in' size fewer))
+            (rarest_taken bits first sets c.loop-bit.from _ bit c.loop-bit.rarest c.loop-bit.fewest rows so is within low in' size fewer))
         | else-is_none+else-rows-fewest w ↦
             subst (λ (r : Option ℕ). IsRarestBefore bits first sets (bit + 1) r c.if-is_none.fewest) (sym w.rarest-is)
             (subst (λ n. IsRarestBefore bits first sets (bit + 1) c.loop-bit.rarest n) (sym w.fewest-is)
-            (rarest_stays bits first sets c.loop-bit.from _ bit c.loop-bit.rarest c.loop-bit.fewest rows c.index.result.now so is low in' size (none ∙ ap not w.if-is_none.false) w.if-rows-fewest.false))
+            (rarest_stays bits first sets c.loop-bit.from _ bit c.loop-bit.rarest c.loop-bit.fewest rows so is low in' size (none ∙ ap not w.if-is_none.false) w.if-rows-fewest.false))
       ],
     )
 
 pub loop-bit-smaller : goal.loop-bit-smaller
 loop-bit-smaller c = nearer c.in-Some.ensures.1.low c.in-Some.ensures.0
 
-pub returns-then-column-len-clause-column : goal.returns-then-column-len-clause-column
-returns-then-column-len-clause-column c =
+pub returns-then-column-rows-clause-column : goal.returns-then-column-rows-clause-column
+returns-then-column-rows-clause-column c =
     let sets = c.args.self.now.sets in
-    column_past c.args.bits.now c.args.start (length sets.items) c.loop-bit.from _ c.in-Some.bit c.loop-bit.rarest c.loop-bit.invariant.2.column c.in-Some.ensures.1
-    (subst (λ n. n ≤ c.in-Some.bit - c.args.start) (c.len.ensures ∙ sets.ok.0) c.if-column-len.true)
+    column_past c.args.bits.now c.args.start (length sets) c.loop-bit.from _ c.in-Some.bit c.loop-bit.rarest c.loop-bit.invariant.2.column c.in-Some.ensures.1
+    (subst (λ n. n ≤ c.in-Some.bit - c.args.start) c.rows.ensures c.if-column-rows.true)
 
-pub returns-then-column-len-clause-rarest : goal.returns-then-column-len-clause-rarest
-returns-then-column-len-clause-rarest c =
+pub returns-then-column-rows-clause-rarest : goal.returns-then-column-rows-clause-rarest
+returns-then-column-rows-clause-rarest c =
     let sets = c.args.self.now.sets in
-    rarest_past c.args.bits.now c.args.start sets.items c.loop-bit.from _ c.in-Some.bit c.loop-bit.rarest c.loop-bit.fewest c.loop-bit.invariant.2 c.in-Some.ensures.1
-    (subst (λ n. n ≤ c.in-Some.bit - c.args.start) (c.len.ensures ∙ sets.ok.0) c.if-column-len.true)
+    rarest_past c.args.bits.now c.args.start sets c.loop-bit.from _ c.in-Some.bit c.loop-bit.rarest c.loop-bit.fewest c.loop-bit.invariant.2 c.in-Some.ensures.1
+    (subst (λ n. n ≤ c.in-Some.bit - c.args.start) c.rows.ensures c.if-column-rows.true)
 
 pub returns-clause-column : goal.returns-clause-column
 returns-clause-column c =
-    column_all c.args.bits.now c.args.start (length c.args.self.now.sets.items) c.loop-bit.from c.loop-bit.rarest c.loop-bit.invariant.2.column c.in_default.ensures
+    column_all c.args.bits.now c.args.start (length c.args.self.now.sets) c.loop-bit.from c.loop-bit.rarest c.loop-bit.invariant.2.column c.in_default.ensures
 
 pub returns-clause-rarest : goal.returns-clause-rarest
 returns-clause-rarest c =
-    rarest_all c.args.bits.now c.args.start c.args.self.now.sets.items c.loop-bit.from c.loop-bit.rarest c.loop-bit.fewest c.loop-bit.invariant.2 c.in_default.ensures
+    rarest_all c.args.bits.now c.args.start c.args.self.now.sets c.loop-bit.from c.loop-bit.rarest c.loop-bit.fewest c.loop-bit.invariant.2 c.in_default.ensures

@@ -24,10 +24,10 @@ vars_are : (c : After-deref_mut) → c.self.inside.vars ≡ c.args.self.now.vars
 vars_are c = ap (λ (s : Content). s.vars) c.self.view_is
 
 matrix_named : (c : After-deref_mut)
-    → IsMatrix c.self.inside.vars (numbered c.args.given c.args.numbers.now) c.self.inside.columns.items c.self.inside.places.items (map window c.self.inside.parts.items) c.self.inside.rows.items c.self.inside.spares.items c.self.inside.no_columns.items
+    → IsMatrix c.self.inside.vars (numbered c.args.given c.args.numbers.now) c.self.inside.columns.items c.self.inside.places.items (map window c.self.inside.parts.items) c.self.inside.rows c.self.inside.spares.items c.self.inside.no_columns.items
 matrix_named c =
     let m = c.self.inside in
-    subst (λ (g : List (List Literal)). IsMatrix m.vars g m.columns.items m.places.items (map window m.parts.items) m.rows.items m.spares.items m.no_columns.items) (named c) c.self.invariant.matrix
+    subst (λ (g : List (List Literal)). IsMatrix m.vars g m.columns.items m.places.items (map window m.parts.items) m.rows m.spares.items m.no_columns.items) (named c) c.self.invariant.matrix
 
 source_at : (c : After-deref_mut) (p : ℕ) (d : Part) → p < length c.self.inside.parts.items → (i : ℕ) → i < length (get_or c.self.inside.parts.items p d).sources.items
     → (1 ≤ get_or (get_or c.self.inside.parts.items p d).sources.items i 0) × (get_or (get_or c.self.inside.parts.items p d).sources.items i 0 ≤ length c.args.numbers.now)
@@ -59,11 +59,11 @@ windows_are : (c : After-rename_sources) → map window c.rename_sources.new.par
 windows_are c = windows_renamed c.args.numbers.now c.self.inside.parts.items c.rename_sources.new.parts (renamed_parts c)
 
 matrix_new : (c : After-deref_mut) (parts : List Part) → map window parts ≡ map (renamed c.args.numbers.now) (map window c.self.inside.parts.items)
-    → IsMatrix c.self.inside.vars c.args.given c.self.inside.columns.items c.self.inside.places.items (map window parts) c.self.inside.rows.items c.self.inside.spares.items c.self.inside.no_columns.items
+    → IsMatrix c.self.inside.vars c.args.given c.self.inside.columns.items c.self.inside.places.items (map window parts) c.self.inside.rows c.self.inside.spares.items c.self.inside.no_columns.items
 matrix_new c parts are =
     let m = c.self.inside in
-    subst (λ (ws : List Window). IsMatrix m.vars c.args.given m.columns.items m.places.items ws m.rows.items m.spares.items m.no_columns.items) (sym are)
-    (renamed_matrix c.args.numbers.now m.vars c.args.given m.columns.items m.places.items (map window m.parts.items) m.rows.items m.spares.items m.no_columns.items (matrix_named c) c.requires.few_given
+    subst (λ (ws : List Window). IsMatrix m.vars c.args.given m.columns.items m.places.items ws m.rows m.spares.items m.no_columns.items) (sym are)
+    (renamed_matrix c.args.numbers.now m.vars c.args.given m.columns.items m.places.items (map window m.parts.items) m.rows m.spares.items m.no_columns.items (matrix_named c) c.requires.few_given
     (subst (λ n. AllByRecursion (AreWithin n) c.args.given) (sym (vars_are c)) c.requires.within)
     (subst (λ n. SayFirst n c.args.given c.args.numbers.now (length c.args.given)) (sym (vars_are c)) c.requires.enough))
 
@@ -78,8 +78,8 @@ invariant_of-self c =
     rw (with_items_is m.parts new (told.long ∙ sym m.parts.ok.0))
     (record {
       matrix = matrix_new s new are;
-      by_column = subst (λ (ws : List Window). AreByColumn ws m.rows.items m.by_columns.items (length ws)) (sym are)
-          (by_columns_renamed c.args.numbers.now (map window m.parts.items) m.rows.items m.by_columns.items c.self.invariant.by_column);
+      by_column = subst (λ (ws : List Window). AreByColumn ws m.rows m.by_columns.items (length ws)) (sym are)
+          (by_columns_renamed c.args.numbers.now (map window m.parts.items) m.rows m.by_columns.items c.self.invariant.by_column);
     })
 
 pub returns-clause-over : goal.returns-clause-over
@@ -89,7 +89,7 @@ pub returns-clause-rows : goal.returns-clause-rows
 returns-clause-rows c =
     let m = c.self.inside in
     let new = map window (with_items m.parts c.rename_sources.new.parts).items in
-    length-map m.rows.items (unpacked m.vars (length c.args.given) new) ∙ sym (length-map m.rows.items (unpacked m.vars (length m.given) (map window m.parts.items)))
+    length-map m.rows (unpacked m.vars (length c.args.given) new) ∙ sym (length-map m.rows (unpacked m.vars (length m.given) (map window m.parts.items)))
     ∙ ap (λ (s : Content). length s.rows) c.self.view_is
 
 pub returns-clause-of_given : goal.returns-clause-of_given
@@ -98,5 +98,5 @@ returns-clause-of_given c =
     let s = (goal.at.returns-clause-of_given c).After-deref_mut in
     let t = (goal.at.returns-clause-of_given c).After-rename_sources in
     let new = c.rename_sources.new.parts in
-    subst (λ (ps : List Part). IsOfGiven (content m.vars c.args.given m.columns.items (map window ps) m.rows.items)) (sym (with_items_is m.parts new ((renamed_parts t).long ∙ sym m.parts.ok.0)))
+    subst (λ (ps : List Part). IsOfGiven (content m.vars c.args.given m.columns.items (map window ps) m.rows)) (sym (with_items_is m.parts new ((renamed_parts t).long ∙ sym m.parts.ok.0)))
     (matrix_new s new (windows_are t)).of_given

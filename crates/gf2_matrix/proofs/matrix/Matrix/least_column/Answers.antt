@@ -16,10 +16,10 @@ of_given c = subst IsOfGiven c.self.view_is c.self.invariant.matrix.of_given
 rise : (c : After-next_outside) → RowRises c.args.self.now c.args.row
 rise c =
     let m = c.self.inside in
-    let row_in = row_within m.vars m.given m.columns.items (map window m.parts.items) m.rows.items c.args.row c.args.self.now c.self.view_is c.requires in
+    let row_in = row_within m.vars m.given m.columns.items (map window m.parts.items) m.rows c.args.row c.args.self.now c.self.view_is c.requires in
     subst (λ (s : Content). RowRises s c.args.row) c.self.view_is
-    (row_rises m.vars m.given m.columns.items m.places.items (map window m.parts.items) m.rows.items m.spares.items m.no_columns.items c.self.invariant.matrix c.args.row
-    (a_row m.rows.items c.args.row row_in) row_in)
+    (row_rises m.vars m.given m.columns.items m.places.items (map window m.parts.items) m.rows m.spares.items m.no_columns.items c.self.invariant.matrix c.args.row
+    (a_row m.rows c.args.row row_in) row_in)
 
 pub returns-in-Some : goal.returns-in-Some
 returns-in-Some c =

@@ -7,44 +7,44 @@ use Rattle.gf2_matrix.proofs.Rows.{row_within, row_window}
 use Rattle.gf2_matrix.proofs.Windows.{search_found, search_lacks}
 use Rattle.gf2_matrix.proofs.Room.{HasRoom, row_there, part_there, row_room, end_fits, offset_fits, bit_fits, bits_fit, place_fits, start_before, few_words, window_long}
 use Rattle.gf2_matrix.proofs.matrix.Matrix.next_outside.Goals as goal
-use Rattle.gf2_matrix.proofs.matrix.Matrix.next_outside.Goals.{After-len, After-deref, After-next_outside}
+use Rattle.gf2_matrix.proofs.matrix.Matrix.next_outside.Goals.{After-len, After-next_outside}
 
-row_in : (c : After-next_outside) → c.args.row < length c.self.inside.rows.items
-row_in c = let m = c.self.inside in row_within m.vars m.given m.columns.items (map window m.parts.items) m.rows.items c.args.row _ c.self.view_is c.requires.row_in
+row_in : (c : After-next_outside) → c.args.row < length c.self.inside.rows
+row_in c = let m = c.self.inside in row_within m.vars m.given m.columns.items (map window m.parts.items) m.rows c.args.row _ c.self.view_is c.requires.row_in
 
-bits_are : (c : After-next_outside) → c.deref.result.now ≡ (get_or c.self.inside.rows.items c.args.row c.index-words.result.now).bits.items
-bits_are c = c.deref.ensures.value ∙ ap (λ (r : PackedRow). r.bits.items) c.index-words.ensures
+bits_are : (c : After-next_outside) → c.row-words.result.bits ≡ (get_or c.self.inside.rows c.args.row c.row-words.result).bits
+bits_are c = ap (λ (r : PackedRow). r.bits) (c.row-words.ensures c.row-words.result)
 
-first_is : (c : After-next_outside) → c.first-first.result ≡ (window_at (map window c.self.inside.parts.items) (get_or c.self.inside.rows.items c.args.row c.index-words.result.now).part).base / 64
+first_is : (c : After-next_outside) → c.first-first.result ≡ (window_at (map window c.self.inside.parts.items) (get_or c.self.inside.rows c.args.row c.row-words.result).part).base / 64
 first_is c =
     let m = c.self.inside in
     c.first-first.ensures
     ∙ ap (λ (w : Window). w.base / 64)
-    (sym (row_window m.vars m.given m.columns.items m.places.items m.parts.items m.rows.items m.spares.items m.no_columns.items c.self.invariant.matrix c.args.row c.index-words.result.now c.index.result.now
-    (row_in c) c.index-words.ensures c.index.ensures))
+    (sym (row_window m.vars m.given m.columns.items m.places.items m.parts.items m.rows m.spares.items m.no_columns.items c.self.invariant.matrix c.args.row c.row-words.result c.index.result.now
+    (row_in c) (c.row-words.ensures c.row-words.result) c.index.ensures))
 
-long : (c : After-deref) → c.len.result ≡ length c.deref.result.now
-long c = c.len.ensures ∙ c.index-words.result.now.bits.ok.0 ∙ sym (ap length c.deref.ensures.value)
+long : (c : After-len) → c.len.result ≡ length c.row-words.result.bits
+long c = c.len.ensures
 
 pub returns-in-Some : goal.returns-in-Some
 returns-in-Some c =
     let m = c.self.inside in
     let s = (goal.at.returns-in-Some c).After-next_outside in
-    let t = (goal.at.returns-in-Some c).After-deref in
+    let t = (goal.at.returns-in-Some c).After-len in
     let first = c.in-Some.ensures.1 in
     let k = c.in-Some.place in
     let f = c.first-first.result in
     let found =
-    search_found m.vars m.given m.columns.items m.places.items (map window m.parts.items) m.rows.items m.spares.items m.no_columns.items c.self.invariant.matrix c.args.row c.index-words.result.now (row_in s)
-    c.args.mask.now c.deref.result.now f c.len.result None None (bits_are s) (first_is s) (long t) (λ _. refl) k c.in-Some.ensures.0 (first.hit c.in-Some.ensures.0) in
+    search_found m.vars m.given m.columns.items m.places.items (map window m.parts.items) m.rows m.spares.items m.no_columns.items c.self.invariant.matrix c.args.row c.row-words.result (row_in s)
+    c.args.mask.now c.row-words.result.bits f c.len.result None None (bits_are s) (first_is s) (long t) (λ _. refl) k c.in-Some.ensures.0 (first.hit c.in-Some.ensures.0) in
     let low = first.low in
     let high = c.in-Some.ensures.0 in
     subst (λ (t : Content). IsNextOutside t c.args.mask.now c.args.row c.args.from (Some (64 * f + k))) c.self.view_is (
       omega arith,
       (found.0, found.1, found.3),
       λ j ge lt free.
-          search_lacks m.vars m.given m.columns.items m.places.items (map window m.parts.items) m.rows.items m.spares.items m.no_columns.items c.self.invariant.matrix c.args.row c.index-words.result.now (row_in s)
-          c.args.mask.now c.deref.result.now f c.len.result None None (bits_are s) (first_is s) (long t) (λ _. refl) j (let in' = found.0 in omega arith) free refl
+          search_lacks m.vars m.given m.columns.items m.places.items (map window m.parts.items) m.rows m.spares.items m.no_columns.items c.self.invariant.matrix c.args.row c.row-words.result (row_in s)
+          c.args.mask.now c.row-words.result.bits f c.len.result None None (bits_are s) (first_is s) (long t) (λ _. refl) j (let in' = found.0 in omega arith) free refl
           (λ le in'. first.before (j - 64 * f) (omega arith) (omega arith)),
     )
 
@@ -52,31 +52,31 @@ pub returns-in-None : goal.returns-in-None
 returns-in-None c =
     let m = c.self.inside in
     let s = (goal.at.returns-in-None c).After-next_outside in
-    let t = (goal.at.returns-in-None c).After-deref in
+    let t = (goal.at.returns-in-None c).After-len in
     let f = c.first-first.result in
     subst (λ (t : Content). IsNextOutside t c.args.mask.now c.args.row c.args.from None) c.self.view_is
     (λ k ge k_in free.
-    search_lacks m.vars m.given m.columns.items m.places.items (map window m.parts.items) m.rows.items m.spares.items m.no_columns.items c.self.invariant.matrix c.args.row c.index-words.result.now (row_in s)
-    c.args.mask.now c.deref.result.now f c.len.result None None (bits_are s) (first_is s) (long t) (λ _. refl) k k_in free refl
+    search_lacks m.vars m.given m.columns.items m.places.items (map window m.parts.items) m.rows m.spares.items m.no_columns.items c.self.invariant.matrix c.args.row c.row-words.result (row_in s)
+    c.args.mask.now c.row-words.result.bits f c.len.result None None (bits_are s) (first_is s) (long t) (λ _. refl) k k_in free refl
     (λ le in'. c.in-None.ensures (k - 64 * f) (omega arith) in'))
 
 room : (c : After-len) → HasRoom c.first-first.result c.len.result (length c.args.mask.now)
 room c =
     let m = c.self.inside in
-    row_room m.vars m.given m.columns.items m.places.items m.parts.items m.rows.items m.spares.items m.no_columns.items c.self.invariant.matrix c.args.self.now c.self.view_is c.args.row c.requires.row_in
-    c.index-words.result.now c.index.result.now c.index-words.ensures c.index.ensures c.args.mask.now c.requires.long c.first-first.result c.len.result c.first-first.ensures c.len.ensures
+    row_room m.vars m.given m.columns.items m.places.items m.parts.items m.rows m.spares.items m.no_columns.items c.self.invariant.matrix c.args.self.now c.self.view_is c.args.row c.requires.row_in
+    c.row-words.result c.index.result.now (c.row-words.ensures c.row-words.result) c.index.ensures c.args.mask.now c.requires.long c.first-first.result c.len.result c.first-first.ensures c.len.ensures
 
-pub index-words-requires : goal.index-words-requires
-index-words-requires c =
+pub row-words-requires : goal.row-words-requires
+row-words-requires c =
     let m = c.self.inside in
-    row_there m.vars m.given m.columns.items m.places.items m.parts.items m.rows.items m.spares.items m.no_columns.items c.self.invariant.matrix c.args.self.now c.self.view_is c.args.row c.requires.row_in
-    m.rows.len m.rows.ok.0
+    row_there m.vars m.given m.columns.items m.places.items m.parts.items m.rows m.spares.items m.no_columns.items c.self.invariant.matrix c.args.self.now c.self.view_is c.args.row c.requires.row_in
+    (length m.rows) refl
 
 pub index-requires : goal.index-requires
 index-requires c =
     let m = c.self.inside in
-    part_there m.vars m.given m.columns.items m.places.items m.parts.items m.rows.items m.spares.items m.no_columns.items c.self.invariant.matrix c.args.self.now c.self.view_is c.args.row c.requires.row_in
-    c.index-words.result.now c.index-words.ensures m.parts.len m.parts.ok.0
+    part_there m.vars m.given m.columns.items m.places.items m.parts.items m.rows m.spares.items m.no_columns.items c.self.invariant.matrix c.args.self.now c.self.view_is c.args.row c.requires.row_in
+    c.row-words.result (c.row-words.ensures c.row-words.result) m.parts.len m.parts.ok.0
 
 pub overflow_add-window : goal.overflow_add-window
 overflow_add-window c = end_fits (room c)
@@ -104,10 +104,10 @@ overflow_mul-result c = bit_fits (room (goal.at.overflow_mul-result c).After-len
 
 pub overflow_add-result : goal.overflow_add-result
 overflow_add-result c =
-    place_fits c.in-Some.place (room (goal.at.overflow_add-result c).After-len) (subst (λ n. c.in-Some.place < 64 * n) (sym (long (goal.at.overflow_add-result c).After-deref)) c.in-Some.ensures.0)
+    place_fits c.in-Some.place (room (goal.at.overflow_add-result c).After-len) (subst (λ n. c.in-Some.place < 64 * n) (sym (long (goal.at.overflow_add-result c).After-len)) c.in-Some.ensures.0)
 
 pub next_outside-requires-clause-few : goal.next_outside-requires-clause-few
-next_outside-requires-clause-few c = subst (λ n. n < 4294967296) (long c) (few_words (room (goal.at.next_outside-requires-clause-few c).After-len))
+next_outside-requires-clause-few c = subst (λ n. n < 4294967296) (long (goal.at.next_outside-requires-clause-few c).After-len) (few_words (room (goal.at.next_outside-requires-clause-few c).After-len))
 
 pub next_outside-requires-clause-same : goal.next_outside-requires-clause-same
-next_outside-requires-clause-same c = sym (long c) ∙ window_long c.args.mask.now (room (goal.at.next_outside-requires-clause-same c).After-len)
+next_outside-requires-clause-same c = sym (long (goal.at.next_outside-requires-clause-same c).After-len) ∙ window_long c.args.mask.now (room (goal.at.next_outside-requires-clause-same c).After-len)

@@ -1,0 +1,7 @@
+use Rattle.std.proofs.Common.{◌≡◌, ◌+◌, map, take, length}
+use Rattle.gf2_matrix.specs.Packed.{window, window_at, start}
+use Rattle.gf2_matrix.specs.Views.{words_for}
+use Rattle.gf2_matrix.proofs.row_tables.widths_of.Given as goal
+
+abbrev pub invariant-loop-home : goal.invariant-loop-home
+invariant-loop-home l = l.widths.items ≡ map (λ p. words_for (start (window_at (map window l.parts) p) + length (window_at (map window l.parts) p).columns)) (take l.home-index l.homes)
