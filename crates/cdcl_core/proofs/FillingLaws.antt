@@ -25,6 +25,7 @@ none_fit n a = record {
     within = λ r h. absurd (true≢false (sym h));
     inside = λ m h. absurd (true≢false (sym h));
     apart = λ m h. absurd (true≢false (sym h));
+    thirds = λ m h. absurd (true≢false (sym h));
   };
   guarded = λ m k i h less low same. absurd (true≢false (sym h));
   behind = record { some = omega arith; reach = omega arith; few = few_looked; low = none_looked n };

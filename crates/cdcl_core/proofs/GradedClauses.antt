@@ -15,7 +15,7 @@ use Rattle.cx_trail.specs.Sequence.{TrailState, entry_at}
 use Rattle.clause_arena.specs.Clauses.{ArenaState, Stored, IsLive, clause_at, literals_at, literals_in, id_at, id_in, learned_at, learned_in, lbd_in, with_lbd}
 use Rattle.tidy_rules.specs.Relations.{strengthens}
 use Rattle.watch_lists.specs.Truths.{AreOthersFalse}
-use Rattle.watch_lists.specs.Watching.{WatchState, held_at, clause_of}
+use Rattle.watch_lists.specs.Watching.{WatchState, IsThird, held_at, side_at, partner, clause_of}
 use Rattle.parity_engine.specs.State.{State}
 use Rattle.cdcl_search.specs.Ties.{ClauseTies, AreLearned, IsNamedBy, IsHeld, NeedsNoLearned, ReasonTies, HasReasonOf, IsWatched}
 use Rattle.cdcl_core.specs.Grading.{ungraded}
@@ -142,6 +142,7 @@ module _ (a b : ArenaState) (same : ungraded b ≡ ungraded a) where
             within = λ r attached. subst (λ ls. All (λ l. (1 ≤ l.variable) × (l.variable ≤ w.variables)) ls) (sym (same_literals r)) (nodes.within r attached);
             inside = λ n attached. subst (λ ls. Contains ls (held_at w.held n)) (sym (same_literals (clause_of n))) (nodes.inside n attached);
             apart = nodes.apart;
+            thirds = λ n attached. subst (λ ls. IsThird ls (side_at w.held n) (side_at w.held (partner n))) (sym (same_literals (clause_of n))) (nodes.thirds n attached);
           };
           guarded = watched.fits.guarded;
           behind = watched.fits.behind;

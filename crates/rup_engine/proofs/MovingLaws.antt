@@ -281,6 +281,10 @@ module _ (moves : List IdMove) (a b : ArenaState) (same : HaveMovedIds moves a b
       within = λ r h. lits_back (λ ls. Rattle.std.specs.List.All (λ (l : Literal). (1 ≤ l.variable) × (l.variable ≤ w.variables)) ls) r (f.nodes.within r h);
       inside = λ n h. lits_back (λ ls. Contains ls (Rattle.watch_lists.specs.Watching.held_at w.held n)) (Rattle.watch_lists.specs.Watching.clause_of n) (f.nodes.inside n h);
       apart = f.nodes.apart;
+      thirds = λ n h.
+          let mine = Rattle.watch_lists.specs.Watching.side_at w.held n in
+          let other = Rattle.watch_lists.specs.Watching.side_at w.held (Rattle.watch_lists.specs.Watching.partner n) in
+          lits_back (λ ls. Rattle.watch_lists.specs.Watching.IsThird ls mine other) (Rattle.watch_lists.specs.Watching.clause_of n) (f.nodes.thirds n h);
     };
     guarded = f.guarded;
     behind = f.behind;

@@ -13,11 +13,12 @@ use Rattle.cx_base.proofs.LiteralLaws.{negate-negate}
 use Rattle.cx_trail.proofs.ValueLaws.{truth_cases, entry_kept}
 use Rattle.clause_arena.specs.Clauses.{ArenaState, Stored, clause_at, literals_in, literals_at, IsLive}
 use Rattle.watch_lists.specs.Truths.{IsQuiet}
-use Rattle.watch_lists.specs.Watching.{clause_of, partner, held_at, IsAttached, looked_at, AreNodes, AreGuarded, IsBehind, WatchState, Fits}
+use Rattle.watch_lists.specs.declared.lists.Side.{Side}
+use Rattle.watch_lists.specs.Watching.{clause_of, partner, held_at, side_at, IsAttached, IsThird, looked_at, AreNodes, AreGuarded, IsBehind, WatchState, Fits}
 use Rattle.watch_lists.specs.Walking.{AllPassed, IsRest, Goes}
 use Rattle.watch_lists.proofs.NodeLaws.{guarded_longer, partner_attached, partner_partner, other_inside}
 
-pub quiet_from : (vars : ℕ) (held : List Literal) (attached : List Bool) (a : ArenaState) (looked : List ℕ) (entries : List Entry) (top : ℕ) → AreNodes vars held attached a → AreGuarded looked held attached entries → top < length looked → length entries ≤ looked_at looked top → (r : ℕ) → IsAttached attached r → IsQuiet entries (literals_at a r)
+pub quiet_from : (vars : ℕ) (held : List Side) (attached : List Bool) (a : ArenaState) (looked : List ℕ) (entries : List Entry) (top : ℕ) → AreNodes vars held attached a → AreGuarded looked held attached entries → top < length looked → length entries ≤ looked_at looked top → (r : ℕ) → IsAttached attached r → IsQuiet entries (literals_at a r)
 quiet_from vars held attached a looked entries top k g ht all r at =
     let n = 2 * r in
     let c : clause_of (2 * r) ≡ r = omega arith in
@@ -55,7 +56,7 @@ advance_behind looked u top head ok b et el h =
           (λ (ne : k ≢ top). b.low k i (omega arith) (subst (λ x. i < x) (other k ne) hi)) (cases_eq k top);
     }
 
-pub advance_guarded : (looked : List ℕ) (held : List Literal) (attached : List Bool) (u : TrailState) (top head : ℕ) (l : Literal) → IsTrail u → top ≡ u.level → length looked ≡ top + 1 → looked_at looked top ≡ head → l ≡ negate (entry_at u.entries head).literal → AllPassed held attached u l → AreGuarded looked held attached u.entries → AreGuarded (set looked top (head + 1)) held attached u.entries
+pub advance_guarded : (looked : List ℕ) (held : List Side) (attached : List Bool) (u : TrailState) (top head : ℕ) (l : Literal) → IsTrail u → top ≡ u.level → length looked ≡ top + 1 → looked_at looked top ≡ head → l ≡ negate (entry_at u.entries head).literal → AllPassed held attached u l → AreGuarded looked held attached u.entries → AreGuarded (set looked top (head + 1)) held attached u.entries
 advance_guarded looked held attached u top head l ok et el eh ea passed g =
     let n : length (set looked top (head + 1)) ≡ length looked = length-set looked top (head + 1) in
     let mine : looked_at (set looked top (head + 1)) top ≡ head + 1 = get_or-set_same looked top (head + 1) 0 (omega arith) in
@@ -71,13 +72,13 @@ advance_guarded looked held attached u top head l ok et el eh ea passed g =
     (λ (z : i ≢ head). g m k i at (omega arith) (subst (λ x. i < looked_at looked x) (sym q) (omega arith)) e) (cases_eq i head))
     (λ (ne : k ≢ top). g m k i at (omega arith) (subst (λ x. i < x) (other k ne) hi) e) (cases_eq k top)
 
-pub goes_same : (h1 h2 : List Literal) (b1 b2 : List Bool) (a : ArenaState) (s t : TrailState) → b2 ≡ b1 → Goes h1 h2 b2 a s t → Goes h1 h2 b1 a s t
+pub goes_same : (h1 h2 : List Side) (b1 b2 : List Bool) (a : ArenaState) (s t : TrailState) → b2 ≡ b1 → Goes h1 h2 b2 a s t → Goes h1 h2 b1 a s t
 goes_same h1 h2 b1 b2 a s t e g = subst (λ (b : List Bool). Goes h1 h2 b a s t) e g
 
-pub rest_same : (v1 v2 : ℕ) (held : List Literal) (b1 b2 : List Bool) (lists : List (List ℕ)) (a : ArenaState) → v2 ≡ v1 → b2 ≡ b1 → IsRest v2 held b2 lists a → IsRest v1 held b1 lists a
+pub rest_same : (v1 v2 : ℕ) (held : List Side) (b1 b2 : List Bool) (lists : List (List ℕ)) (a : ArenaState) → v2 ≡ v1 → b2 ≡ b1 → IsRest v2 held b2 lists a → IsRest v1 held b1 lists a
 rest_same v1 v2 held b1 b2 lists a ev eb k = subst (λ v. IsRest v held b1 lists a) ev (subst (λ (b : List Bool). IsRest v2 held b lists a) eb k)
 
-pub guarded_raised : (level : ℕ) (old new : List ℕ) (held : List Literal) (attached : List Bool) (entries : List Entry) → 1 ≤ length old → IsRaised level old new → AreGuarded old held attached entries → AreGuarded new held attached entries
+pub guarded_raised : (level : ℕ) (old new : List ℕ) (held : List Side) (attached : List Bool) (entries : List Entry) → 1 ≤ length old → IsRaised level old new → AreGuarded old held attached entries → AreGuarded new held attached entries
 guarded_raised level old new held attached entries some r g n k i at hk hi e = ⊎_elim
     (λ (b : k < length old). g n k i at b (subst (λ x. i < x) (r.kept k b) hi) e)
     (λ (b : length old ≤ k).
@@ -159,6 +160,7 @@ fits_arena w a b t clause e f =
         within = λ r h. subst (λ (xs : List Literal). All (λ l. (1 ≤ l.variable) × (l.variable ≤ w.variables)) xs) (sym (lits r h)) (f.nodes.within r h);
         inside = λ n h. subst (λ (xs : List Literal). Contains xs (held_at w.held n)) (sym (lits (clause_of n) h)) (f.nodes.inside n h);
         apart = f.nodes.apart;
+        thirds = λ n h. subst (λ (xs : List Literal). IsThird xs (side_at w.held n) (side_at w.held (partner n))) (sym (lits (clause_of n) h)) (f.nodes.thirds n h);
       };
       guarded = f.guarded;
       behind = f.behind;

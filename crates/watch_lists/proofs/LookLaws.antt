@@ -1,5 +1,5 @@
--- A search that goes around a clause.
-use Rattle.std.proofs.Common.{ℕ, ◌≢◌, ◌<◌, ◌≤◌, List, length, take, drop, Option, None, Some, MatchOption, subst, sym, ⊎_elim, arith}
+-- A search that goes around a clause, and a look at a short one.
+use Rattle.std.proofs.Common.{ℕ, ◌≡◌, ◌≢◌, ◌⊎◌, ◌∙◌, ◌<◌, ◌≤◌, List, length, take, drop, Option, None, Some, MatchOption, subst, sym, ⊎_elim, arith}
 use Rattle.std.specs.List.{Contains}
 use Rattle.std.proofs.lemmas.List.{take-append-drop, length-take-le, get_or-take}
 use Rattle.std.proofs.lemmas.List.Elements.{Contains-append_cases}
@@ -26,3 +26,11 @@ found_in_front entries lits other start (Some place) le back front =
       apart = subst (λ (l : Literal). l ≢ other) same front.apart;
       free = subst (λ (l : Literal). IsFalseIn entries l → ⊥) same front.free;
     }
+
+-- a short clause is a false literal, the other one that is watched and the third one
+pub others_false : (entries : List Entry) (lits : List Literal) (mine other third : Literal) → IsFalseIn entries mine → (third ≢ other → IsFalseIn entries third) → ((l : Literal) → Contains lits l → (l ≡ mine) ⊎ ((l ≡ other) ⊎ (l ≡ third))) → AreOthersFalse entries lits other
+others_false entries lits mine other third falsified denied each m h ne = ⊎_elim
+    (λ (e : m ≡ mine). subst (λ (l : Literal). IsFalseIn entries l) (sym e) falsified)
+    (λ (r : (m ≡ other) ⊎ (m ≡ third)). ⊎_elim
+    (λ (e : m ≡ other). absurd (ne e))
+    (λ (e : m ≡ third). subst (λ (l : Literal). IsFalseIn entries l) (sym e) (denied (λ q. ne (e ∙ q)))) r) (each m h)

@@ -12,21 +12,22 @@ use Rattle.cx_trail.specs.Renaming.{renamed}
 use Rattle.clause_arena.specs.Clauses.{ArenaState, clause_at, literals_at, literals_in, IsLive}
 use Rattle.clause_arena.specs.Compact.{IsRenamed}
 use Rattle.clause_arena.proofs.PackingLaws.{live_within}
-use Rattle.watch_lists.specs.Watching.{clause_of, partner, held_at, no_literal, IsAttached, IsBehind, Fits, WatchState}
+use Rattle.watch_lists.specs.declared.lists.Side.{Side}
+use Rattle.watch_lists.specs.Watching.{clause_of, partner, side_at, held_at, no_side, IsAttached, IsThird, IsBehind, Fits, WatchState}
 use Rattle.watch_lists.specs.Detaching.{HaveLists}
 use Rattle.watch_lists.specs.Renaming.{AreLowered, AreRenamed, AreRenamedBelow, HasWatchesOf}
 use Rattle.watch_lists.proofs.AttachLaws.{partner_first, partner_second}
 use Rattle.watch_lists.proofs.NodeLaws.{clause_in}
 
 -- ---- one clause more
-pub renamed_none : (moves : List Move) (held : List Literal) (attached : List Bool) → AreRenamedBelow moves 0 held attached held attached
+pub renamed_none : (moves : List Move) (held : List Side) (attached : List Bool) → AreRenamedBelow moves 0 held attached held attached
 renamed_none moves held attached = record {
   held_count = refl;
   count = refl;
   kept = λ r s h. absurd (omega arith);
   only = λ s h. absurd (omega arith);
   flags = λ r h. refl;
-  literals = λ n h. refl;
+  sides = λ n h. refl;
 }
 
 -- one literal of a clause and another one of another clause are at different nodes
@@ -37,7 +38,7 @@ pub some_same : (a b : ℕ) → ◌≡◌ {A = Option ℕ} (Some a) (Some b) →
 some_same a b e = cc
 
 -- it has no new reference
-pub renamed_past : (moves : List Move) (place : ℕ) (held : List Literal) (attached : List Bool) (h1 : List Literal) (b1 b2 : List Bool)
+pub renamed_past : (moves : List Move) (place : ℕ) (held : List Side) (attached : List Bool) (h1 : List Side) (b1 b2 : List Bool)
     → AreLowered moves → moved_to moves place ≡ None → place < length b1 → b2 ≡ set b1 place false → AreRenamedBelow moves place held attached h1 b1 → AreRenamedBelow moves (place + 1) held attached h1 b2
 renamed_past moves place held attached h1 b1 b2 low gone inside eb p =
     let here : get_or b2 place false ≡ false = ap (λ (xs : List Bool). get_or xs place false) eb ∙ get_or-set_same b1 place false false inside in
@@ -55,16 +56,16 @@ renamed_past moves place held attached h1 b1 b2 low gone inside eb p =
           (elsewhere s (λ q. omega (arith, less, below)) ∙ w.0, w.1);
       only = λ s h at. let ne = not_here s at in let w = p.only s (omega (arith, ne)) (sym (elsewhere s ne) ∙ at) in (w.0, omega (arith, w.1), w.2, w.3);
       flags = λ r h. elsewhere r (λ e. omega arith) ∙ p.flags r (omega arith);
-      literals = λ n h. p.literals n (omega arith);
+      sides = λ n h. p.sides n (omega arith);
     }
   where
     no_reference : (s : ℕ) → ◌≡◌ {A = Option ℕ} None (Some s) → ⊥
     no_reference s e = cc
 
 -- it has one
-module _ (moves : List Move) (place to : ℕ) (held : List Literal) (attached : List Bool) (h1 h2 : List Literal) (b1 b2 : List Bool) (flag : Bool) (first second : Literal)
+module _ (moves : List Move) (place to : ℕ) (held : List Side) (attached : List Bool) (h1 h2 : List Side) (b1 b2 : List Bool) (flag : Bool) (first second : Side)
     (low : AreLowered moves) (goes : moved_to moves place ≡ Some to) (pairs : length h1 ≡ 2 * length b1) (inside : place < length b1)
-    (was : get_or b1 place false ≡ flag) (was_first : held_at h1 (2 * place) ≡ first) (was_second : held_at h1 (2 * place + 1) ≡ second)
+    (was : get_or b1 place false ≡ flag) (was_first : side_at h1 (2 * place) ≡ first) (was_second : side_at h1 (2 * place + 1) ≡ second)
     (eh : h2 ≡ set (set h1 (2 * to) first) (2 * to + 1) second) (eb : b2 ≡ set (set b1 place false) to flag) (p : AreRenamedBelow moves place held attached h1 b1) where
   down : to ≤ place
   down = low.lower place to goes
@@ -80,26 +81,26 @@ module _ (moves : List Move) (place to : ℕ) (held : List Literal) (attached : 
   flag_elsewhere : (r : ℕ) → r ≢ to → r ≢ place → get_or b2 r false ≡ get_or b1 r false
   flag_elsewhere r ne ne' = ap (λ (xs : List Bool). get_or xs r false) eb ∙ get_or-set_other (set b1 place false) to r flag false ne ∙ get_or-set_other b1 place r false false ne'
 
-  first_there : held_at h2 (2 * to) ≡ first
+  first_there : side_at h2 (2 * to) ≡ first
   first_there =
       let d = down in
-      ap (λ (xs : List Literal). held_at xs (2 * to)) eh ∙ get_or-set_other (set h1 (2 * to) first) (2 * to + 1) (2 * to) second no_literal (λ e. omega arith)
-      ∙ get_or-set_same h1 (2 * to) first no_literal (omega (arith, d, inside, pairs))
+      ap (λ (xs : List Side). side_at xs (2 * to)) eh ∙ get_or-set_other (set h1 (2 * to) first) (2 * to + 1) (2 * to) second no_side (λ e. omega arith)
+      ∙ get_or-set_same h1 (2 * to) first no_side (omega (arith, d, inside, pairs))
 
-  second_there : held_at h2 (2 * to + 1) ≡ second
+  second_there : side_at h2 (2 * to + 1) ≡ second
   second_there =
       let d = down in
-      ap (λ (xs : List Literal). held_at xs (2 * to + 1)) eh ∙ get_or-set_same (set h1 (2 * to) first) (2 * to + 1) second no_literal (omega (arith, d, inside, pairs, length-set h1 (2 * to) first))
+      ap (λ (xs : List Side). side_at xs (2 * to + 1)) eh ∙ get_or-set_same (set h1 (2 * to) first) (2 * to + 1) second no_side (omega (arith, d, inside, pairs, length-set h1 (2 * to) first))
 
-  held_elsewhere : (n : ℕ) → n ≢ 2 * to → n ≢ 2 * to + 1 → held_at h2 n ≡ held_at h1 n
-  held_elsewhere n ne ne' = ap (λ (xs : List Literal). held_at xs n) eh ∙ get_or-set_other (set h1 (2 * to) first) (2 * to + 1) n second no_literal ne' ∙ get_or-set_other h1 (2 * to) n first no_literal ne
+  held_elsewhere : (n : ℕ) → n ≢ 2 * to → n ≢ 2 * to + 1 → side_at h2 n ≡ side_at h1 n
+  held_elsewhere n ne ne' = ap (λ (xs : List Side). side_at xs n) eh ∙ get_or-set_other (set h1 (2 * to) first) (2 * to + 1) n second no_side ne' ∙ get_or-set_other h1 (2 * to) n first no_side ne
 
   both : HasWatchesOf held h2 place to
   both zero less =
       let at : 2 * to + 0 ≡ 2 * to = omega arith in
       let from : 2 * place + 0 ≡ 2 * place = omega arith in
-      ap (held_at h2) at ∙ first_there ∙ sym was_first ∙ p.literals (2 * place) (omega arith) ∙ ap (held_at held) (sym from)
-  both (suc zero) less = second_there ∙ sym was_second ∙ p.literals (2 * place + 1) (omega arith)
+      ap (side_at h2) at ∙ first_there ∙ sym was_first ∙ p.sides (2 * place) (omega arith) ∙ ap (side_at held) (sym from)
+  both (suc zero) less = second_there ∙ sym was_second ∙ p.sides (2 * place + 1) (omega arith)
   both (suc (suc n)) less = absurd (omega (arith, less))
 
   kept_then : (r s : ℕ) → r < place + 1 → moved_to moves r ≡ Some s → IsAttached attached r → IsAttached b2 s × HasWatchesOf held h2 r s
@@ -135,7 +136,7 @@ module _ (moves : List Move) (place to : ℕ) (held : List Literal) (attached : 
         kept = kept_then;
         only = only_then;
         flags = λ r h. flag_elsewhere r (λ e. omega (arith, d)) (λ e. omega arith) ∙ p.flags r (omega arith);
-        literals = λ n h. held_elsewhere n (λ e. omega (arith, d)) (λ e. omega (arith, d)) ∙ p.literals n (omega arith);
+        sides = λ n h. held_elsewhere n (λ e. omega (arith, d)) (λ e. omega (arith, d)) ∙ p.sides n (omega arith);
       }
 
 -- ---- all clauses
@@ -150,14 +151,14 @@ are_renamed moves w v e f p = record {
 }
 
 -- the node that a node was
-record WasNode (moves : List Move) (held : List Literal) (attached : List Bool) (new_held : List Literal) (n : ℕ) : Type 0 where
+record WasNode (moves : List Move) (held : List Side) (attached : List Bool) (new_held : List Side) (n : ℕ) : Type 0 where
   node : ℕ
   goes : moved_to moves (clause_of node) ≡ Some (clause_of n)
   at : IsAttached attached (clause_of node)
-  literal : held_at new_held n ≡ held_at held node
-  other : held_at new_held (partner n) ≡ held_at held (partner node)
+  mine : side_at new_held n ≡ side_at held node
+  other : side_at new_held (partner n) ≡ side_at held (partner node)
 
-was_node : (moves : List Move) (held : List Literal) (attached : List Bool) (new_held : List Literal) (n r : ℕ) → moved_to moves r ≡ Some (clause_of n) → IsAttached attached r → HasWatchesOf held new_held r (clause_of n) → WasNode moves held attached new_held n
+was_node : (moves : List Move) (held : List Side) (attached : List Bool) (new_held : List Side) (n r : ℕ) → moved_to moves r ≡ Some (clause_of n) → IsAttached attached r → HasWatchesOf held new_held r (clause_of n) → WasNode moves held attached new_held n
 was_node moves held attached new_held n r goes at both = ⊎_elim
     (λ (z : n % 2 ≡ 0).
     let now : n ≡ 2 * s = omega arith in
@@ -165,8 +166,8 @@ was_node moves held attached new_held n r goes at both = ⊎_elim
       node = 2 * r;
       goes = ap (moved_to moves) mine_first ∙ goes;
       at = subst (IsAttached attached) (sym mine_first) at;
-      literal = ap (held_at new_held) now ∙ first;
-      other = ap (λ x. held_at new_held (partner x)) now ∙ ap (held_at new_held) (partner_first s) ∙ second ∙ ap (held_at held) (sym (partner_first r));
+      mine = ap (side_at new_held) now ∙ first;
+      other = ap (λ x. side_at new_held (partner x)) now ∙ ap (side_at new_held) (partner_first s) ∙ second ∙ ap (side_at held) (sym (partner_first r));
     })
     (λ (z : n % 2 ≢ 0).
     let now : n ≡ 2 * s + 1 = omega arith in
@@ -174,8 +175,8 @@ was_node moves held attached new_held n r goes at both = ⊎_elim
       node = 2 * r + 1;
       goes = ap (moved_to moves) mine_second ∙ goes;
       at = subst (IsAttached attached) (sym mine_second) at;
-      literal = ap (held_at new_held) now ∙ second;
-      other = ap (λ x. held_at new_held (partner x)) now ∙ ap (held_at new_held) (partner_second s) ∙ first ∙ ap (held_at held) (sym (partner_second r));
+      mine = ap (side_at new_held) now ∙ second;
+      other = ap (λ x. side_at new_held (partner x)) now ∙ ap (side_at new_held) (partner_second s) ∙ first ∙ ap (side_at held) (sym (partner_second r));
     }) (cases_eq (n % 2) 0)
   where
     s : ℕ
@@ -187,18 +188,18 @@ was_node moves held attached new_held n r goes at both = ⊎_elim
     mine_second : clause_of (2 * r + 1) ≡ r
     mine_second = omega arith
 
-    first : held_at new_held (2 * s) ≡ held_at held (2 * r)
-    first = let x : 2 * s ≡ 2 * s + 0 = omega arith in let y : 2 * r + 0 ≡ 2 * r = omega arith in ap (held_at new_held) x ∙ both 0 (omega arith) ∙ ap (held_at held) y
+    first : side_at new_held (2 * s) ≡ side_at held (2 * r)
+    first = let x : 2 * s ≡ 2 * s + 0 = omega arith in let y : 2 * r + 0 ≡ 2 * r = omega arith in ap (side_at new_held) x ∙ both 0 (omega arith) ∙ ap (side_at held) y
 
-    second : held_at new_held (2 * s + 1) ≡ held_at held (2 * r + 1)
+    second : side_at new_held (2 * s + 1) ≡ side_at held (2 * r + 1)
     second = both 1 (omega arith)
 
-pub lists_renamed : (moves : List Move) (held : List Literal) (attached : List Bool) (new_held : List Literal) (new_attached : List Bool) (count : ℕ) → AreRenamedBelow moves (length attached) held attached new_held new_attached → HaveLists held attached count → HaveLists new_held new_attached count
+pub lists_renamed : (moves : List Move) (held : List Side) (attached : List Bool) (new_held : List Side) (new_attached : List Bool) (count : ℕ) → AreRenamedBelow moves (length attached) held attached new_held new_attached → HaveLists held attached count → HaveLists new_held new_attached count
 lists_renamed moves held attached new_held new_attached count p k n h =
     let inside = clause_in (clause_of n) new_attached h in
     let o = p.only (clause_of n) (omega (arith, inside, p.count)) h in
     let was = was_node moves held attached new_held n o.0 o.2 o.3 (p.kept o.0 (clause_of n) o.1 o.2 o.3).1 in
-    subst (λ (l : Literal). code_of l < count) (sym was.literal) (k was.node was.at)
+    subst (λ (x : Side). code_of x.watched < count) (sym was.mine) (k was.node was.at)
 
 -- ---- a compacted arena
 pub lowered : (a b : ArenaState) (moves : List Move) → IsRenamed a b moves → AreLowered moves
@@ -268,15 +269,20 @@ renamed_fits w v a b t moves f d fits = record {
     inside = λ n h.
         let was = node n h in
         subst (λ (xs : List Literal). Contains xs (held_at v.held n)) (sym (same_literals (clause_of was.node) (clause_of n) was.goes))
-        (subst (λ (x : Literal). Contains (literals_at a (clause_of was.node)) x) (sym was.literal) (fits.nodes.inside was.node was.at));
-    apart = λ n h q. let was = node n h in fits.nodes.apart was.node was.at (sym was.literal ∙ q ∙ was.other);
+        (subst (λ (x : Side). Contains (literals_at a (clause_of was.node)) x.watched) (sym was.mine) (fits.nodes.inside was.node was.at));
+    apart = λ n h q. let was = node n h in fits.nodes.apart was.node was.at (sym (ap (λ (x : Side). x.watched) was.mine) ∙ q ∙ ap (λ (x : Side). x.watched) was.other);
+    thirds = λ n h.
+        let was = node n h in
+        subst (λ (xs : List Literal). IsThird xs (side_at v.held n) (side_at v.held (partner n))) (sym (same_literals (clause_of was.node) (clause_of n) was.goes))
+        (subst (λ (x : Side). IsThird (literals_at a (clause_of was.node)) x (side_at v.held (partner n))) (sym was.mine)
+        (subst (λ (x : Side). IsThird (literals_at a (clause_of was.node)) (side_at w.held was.node) x) (sym was.other) (fits.nodes.thirds was.node was.at)));
   };
   guarded = λ n k i h hk hi e.
       let was = node n h in
       let hk' : k < length w.looked = omega (arith, hk, ap length d.looked) in
       let hi' = subst (λ (xs : List ℕ). i < get_or xs k 0) d.looked hi in
-      subst (λ (x : Literal). IsTrueBy k (map (renamed moves) t.entries) x) (sym was.other)
-      (true_stays moves k t.entries (held_at w.held (partner was.node)) (fits.guarded was.node k i was.at hk' hi' (sym (literal_stays moves t.entries i) ∙ e ∙ ap negate was.literal)));
+      subst (λ (x : Side). IsTrueBy k (map (renamed moves) t.entries) x.watched) (sym was.other)
+      (true_stays moves k t.entries (held_at w.held (partner was.node)) (fits.guarded was.node k i was.at hk' hi' (sym (literal_stays moves t.entries i) ∙ e ∙ ap (λ (x : Side). negate x.watched) was.mine)));
   behind = subst (λ (xs : List ℕ). IsBehind xs (record t { entries = map (renamed moves) t.entries })) (sym d.looked) (behind_renamed moves w.looked t fits.behind);
 }
   where

@@ -4,6 +4,7 @@ ghost use Rattle.clause_arena.specs.Clauses.{IsLive};
 ghost use Rattle.watch_lists.specs.Watching.{IsAttached};
 
 use crate::lists::NodeLists;
+use crate::nodes::third_of_short;
 use clause_arena::Arena;
 use cx_base::{ClauseRef, Lit, Var};
 
@@ -42,7 +43,7 @@ impl Ahead {
             return;
         }
         self.watched = lists.watched(node);
-        if attached[place] {
+        if attached[place] && third_of_short(lists, node).is_none() {
             self.read_clause(arena, ClauseRef::new(node / 2));
         }
     }

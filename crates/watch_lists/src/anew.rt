@@ -8,7 +8,7 @@ ghost use Rattle.watch_lists.specs.Attaching.{literal_at};
 ghost use Rattle.watch_lists.specs.Walking.{AreOf};
 
 use crate::attach::make_room;
-use crate::lists::NodeLists;
+use crate::lists::{NodeLists, Side};
 use crate::nodes::Nodes;
 use crate::starts::Starts;
 use clause_arena::Arena;
@@ -86,8 +86,10 @@ fn choose_one(nodes: &mut Nodes, lists: &mut NodeLists, arena: &Arena, place: u3
         return;
     }
     let lits = arena.lits(reference);
-    lists.watch(2 * place, lits[0]);
-    lists.watch(2 * place + 1, other_one(lits));
+    let first = lits[0];
+    let other = other_one(lits);
+    lists.watch(2 * place, Side::new(first, first));
+    lists.watch(2 * place + 1, Side::new(other, other));
     nodes.attached[at] = true;
 }
 

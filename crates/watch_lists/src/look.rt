@@ -1,5 +1,5 @@
 //! A look at one clause.
-ghost use Rattle.std.specs.Prelude.{◌≡◌, ◌≢◌, ◌<◌, ◌≤◌, ℕ, length, MatchOption, MatchBool};
+ghost use Rattle.std.specs.Prelude.{◌≡◌, ◌≢◌, ◌<◌, ◌≤◌, ◌⊎◌, ℕ, List, length, MatchOption, MatchBool};
 ghost use Rattle.std.specs.List.{All, Contains};
 ghost use Rattle.cx_base.specs.Literals.{Literal};
 ghost use Rattle.cx_trail.specs.Sequence.{IsTrail, IsTrueIn, IsFalseIn};
@@ -99,6 +99,28 @@ fn free_literal(
     }
     let place = find(lits, trail, other)?;
     Some(lits[place])
+}
+
+// What a short clause is, whose literals are a false one, this third one and `other`, which is not true. The clause is not read.
+#[inline(always)]
+pub(crate) fn look_at_short(trail: &Trail, third: Lit, other: Lit) -> ClauseFinding
+    requires third { third.variable ≤ trail.now.variables }
+    requires other { other.variable ≤ trail.now.variables }
+    requires unmet { IsTrueIn trail.now.entries other → ⊥ }
+    ensures finds { (lits : List Literal) (mine : Literal) → IsFalseIn trail.now.entries mine → Contains lits third
+        → ((l : Literal) → Contains lits l → (l ≡ mine) ⊎ ((l ≡ other) ⊎ (l ≡ third))) → IsFinding trail.now.entries lits other result }
+    ensures sound { IsTrail trail.now }
+{
+    // the trail is sound, which this call tells the proof
+    let _count = trail.len();
+    if is_free(trail, third, other) {
+        return ClauseFinding::Free(third);
+    }
+    match trail.truth(other) {
+        Truth::True => ClauseFinding::Unit,
+        Truth::Open => ClauseFinding::Unit,
+        Truth::False => ClauseFinding::Falsified,
+    }
 }
 
 // What the clause is, where `other` is one of its literals and not true.

@@ -1,6 +1,6 @@
 //! Watches of clauses that have new references.
 ghost use Rattle.std.specs.Prelude.{◌≡◌, ◌<◌, ◌+◌, ◌*◌, ◌^◌, ℕ, Bool, List, length};
-ghost use Rattle.cx_base.specs.Literals.{Literal};
+ghost use Rattle.watch_lists.specs.declared.lists.Side.{Side};
 ghost use Rattle.watch_lists.specs.Walking.{AreOf};
 ghost use Rattle.watch_lists.specs.Renaming.{AreLowered, AreRenamedBelow};
 
@@ -8,7 +8,7 @@ use crate::lists::NodeLists;
 use crate::nodes::Nodes;
 use cx_base::{ClauseRef, Moved};
 
-// Moves the watched literals of one clause to its new reference. Where it has none, it is detached.
+// Moves the sides of one clause to its new reference. Where it has none, it is detached.
 fn move_one(nodes: &mut Nodes, lists: &mut NodeLists, moved: &Moved, place: u32)
     requires lowered { AreLowered moved.now }
     requires room { place < length nodes.old.attached.items }
@@ -17,7 +17,7 @@ fn move_one(nodes: &mut Nodes, lists: &mut NodeLists, moved: &Moved, place: u32)
     ensures pairs { length lists.new.held ≡ 2 * length nodes.new.attached.items }
     ensures lists { lists.new.lists ≡ lists.old.lists }
     ensures over { (vars : ℕ) → AreOf vars lists.old.held → AreOf vars lists.new.held }
-    ensures below { (held : List Literal) (attached : List Bool)
+    ensures below { (held : List Side) (attached : List Bool)
         → AreRenamedBelow moved.now place held attached lists.old.held nodes.old.attached.items
         → AreRenamedBelow moved.now (place + 1) held attached lists.new.held nodes.new.attached.items }
 {
@@ -26,15 +26,15 @@ fn move_one(nodes: &mut Nodes, lists: &mut NodeLists, moved: &Moved, place: u32)
     nodes.attached[from] = false;
     if let Some(new) = moved.to(ClauseRef::new(place)) {
         let to = new.place();
-        let first = lists.watched(2 * place);
-        let second = lists.watched(2 * place + 1);
+        let first = lists.side(2 * place);
+        let second = lists.side(2 * place + 1);
         lists.watch(2 * to, first);
         lists.watch(2 * to + 1, second);
         nodes.attached[to as usize] = attached;
     }
 }
 
-// Moves the watched literals of each clause to its new reference.
+// Moves the sides of each clause to its new reference.
 pub(crate) fn move_all(nodes: &mut Nodes, lists: &mut NodeLists, moved: &Moved)
     requires lowered { AreLowered moved.now }
     requires few { length lists.old.held < 2 ^ 32 }

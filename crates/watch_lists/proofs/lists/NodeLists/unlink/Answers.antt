@@ -56,7 +56,7 @@ pub overflow_sub-head-2 : goal.overflow_sub-head-2
 overflow_sub-head-2 c = head_counts _ _ c.args.cursor c.code-list.result c.index-head.result.now (may (goal.at.overflow_sub-head-2 c).After-index-head) c.code-list.ensures.code c.index-head.ensures
 
 relinked : (c : After-index) → 0 < c.args.cursor.passed → (it : Node) → IsUnlinked c.args.cursor (map (nodes_of (links_of c.self.inside.nodes.items)) c.self.inside.heads.items)
-    (map (nodes_of (links_of (set c.self.inside.nodes.items c.args.cursor.previous (record { watched = it.watched; next = c.index.result.now.next })))) (set c.self.inside.heads.items c.code-list.result (record { first = c.index-head.result.now.first; count = c.index-head.result.now.count - 1 })))
+    (map (nodes_of (links_of (set c.self.inside.nodes.items c.args.cursor.previous (record { side = it.side; next = c.index.result.now.next })))) (set c.self.inside.heads.items c.code-list.result (record { first = c.index-head.result.now.first; count = c.index-head.result.now.count - 1 })))
 relinked c some it =
     let nodes = c.self.inside.nodes.items in
     let heads = c.self.inside.heads.items in
@@ -68,8 +68,8 @@ invariant_of-self-2 c =
     let nodes = c.self.inside.nodes.items in
     let previous = c.args.cursor.previous in
     let it = c.index_mut-2.result.now in
-    let more = set nodes previous (record { watched = it.watched; next = c.index.result.now.next }) in
-    let long : length (links_of more) ≡ length (links_of nodes) = links_count more ∙ length-set nodes previous (record { watched = it.watched; next = c.index.result.now.next }) ∙ sym (links_count nodes) in
+    let more = set nodes previous (record { side = it.side; next = c.index.result.now.next }) in
+    let long : length (links_of more) ≡ length (links_of nodes) = links_count more ∙ length-set nodes previous (record { side = it.side; next = c.index.result.now.next }) ∙ sym (links_count nodes) in
     unlinked_flagged _ _ _ _ c.self.inside.stands.items c.args.cursor long (relinked (goal.at.invariant_of-self-2 c).After-index (omega (arith, c.if-cursor-eq0.false)) it) c.self.invariant
 
 pub returns-clause-unlinked : goal.returns-clause-unlinked

@@ -1,5 +1,5 @@
 use Rattle.std.proofs.Common.{◌≡◌, ◌+◌, ◌*◌, ℕ, List, [], ◌∷◌, length, set, ap, ◌∙◌, subst, sym, arith}
-use Rattle.cx_base.specs.Literals.{Literal}
+use Rattle.watch_lists.specs.declared.lists.Side.{Side}
 use Rattle.cx_base.proofs.LiteralLaws.{code_below}
 use Rattle.watch_lists.specs.Anew.{AreChosenBelow, AreWatchable}
 use Rattle.watch_lists.specs.Walking.{AreListed, AreOf}
@@ -46,7 +46,7 @@ invariant_of-self-2 c =
       few = i.few;
       room_for_levels = omega (arith, room, same);
       some = omega (arith, long);
-      listed = subst (λ (hs : List Literal). AreListed hs c.choose_all.new.nodes.attached.items lists.lists) (sym l.held) l.listed;
+      listed = subst (λ (hs : List Side). AreListed hs c.choose_all.new.nodes.attached.items lists.lists) (sym l.held) l.listed;
       size = omega (arith, many, count);
       over = subst (AreOf c.self.inside.vars) (sym l.held) (over before);
       pairs = omega (arith, held, pairs);
@@ -61,6 +61,6 @@ returns-clause-fits c t e =
     let attached = c.choose_all.new.nodes.attached.items in
     let l = c.link_all.ensures in
     let all = c.choose_all.ensures in
-    let chosen = subst (λ n. AreChosenBelow a n held attached) (sym all.count) (subst (λ (hs : List Literal). AreChosenBelow a (length c.make_rooms.new.nodes.attached.items) hs attached) (sym l.held) all.chosen) in
+    let chosen = subst (λ n. AreChosenBelow a n held attached) (sym all.count) (subst (λ (hs : List Side). AreChosenBelow a (length c.make_rooms.new.nodes.attached.items) hs attached) (sym l.held) all.chosen) in
     subst (λ (ls : List ℕ). Fits (record { variables = vars; looked = ls; held = held; attached = attached }) a t) (sym (looked_is (goal.at.returns-clause-fits c).After-truncate))
     (chosen_fits vars a held attached (ap length l.held ∙ all.pairs) (able before) chosen t (e ∙ ap (λ (w : WatchState). w.variables) (sym c.self.view_is)))
