@@ -1,10 +1,11 @@
 //! The trimming of a proof.
-ghost use Rattle.std.specs.Prelude.{◌≡◌, ℕ, List, false, IfOk, IfErr};
-ghost use Rattle.cx_base.specs.Problem.{Unmet};
+ghost use Rattle.std.specs.Prelude.{◌≡◌, ℕ, List, false, IfOk, IfErr, length};
+ghost use Rattle.cx_base.specs.Problem.{Unmet, clauses_of, parities_of};
 ghost use Rattle.xlrup_check.specs.Verdicts.{HasCause, ReadsStand};
 ghost use Rattle.proof_trim.specs.Laws.{IsRefutation};
+ghost use Rattle.proof_trim.specs.Marking.{marked};
 ghost use Rattle.proof_trim.specs.Outcomes.{AnswersAsJudged, IsTrimOf, ListsNames, Trims, WhereDone};
-ghost use Rattle.proof_trim.specs.Trimmed.{core_of};
+ghost use Rattle.proof_trim.specs.Trimmed.{core_of, trimmed};
 
 use crate::back::{FoundNeeded, go_back};
 use crate::keep::keep;
@@ -37,18 +38,53 @@ fn numbers_in(
     Ok(IdList::from_vec(numbers))
 }
 
+/// The numbers of those of a formula's constraints that needed steps name, rising.
+#[derive(Drop)]
+struct NamedConstraints {
+    clauses: IdList,
+    parities: IdList,
+}
+
+/// The numbers of the formula's constraints whose names are in the set.
+fn named_constraints(
+    alloc: Global,
+    formula: &Formula,
+    names: &NameSet,
+) -> Result<NamedConstraints, AllocError>
+    ensures clauses { IfOk result (λ named. ListsNames names.now Kind.Clauses (length (clauses_of formula.now.constraints)) named.clauses) }
+    ensures parities { IfOk result (λ named. ListsNames names.now Kind.Parities (length (parities_of formula.now.constraints)) named.parities) }
+{
+    let clauses = numbers_in(alloc, names, Kind::Clauses, formula.clause_count())?;
+    let parities = numbers_in(alloc, names, Kind::Parities, formula.parity_count())?;
+    Ok(NamedConstraints { clauses, parities })
+}
+
+/// The marked steps, and the deletions of what is live among them.
+fn kept_of(
+    alloc: Global,
+    formula: &Formula,
+    proof: StepStore,
+    marks: Vec<bool>,
+) -> Result<KeptSteps, AllocError>
+    requires { length marks.items ≡ length proof }
+    ensures { IfOk result (λ kept. kept.steps ≡ trimmed formula.now (marked marks.items) proof) }
+{
+    let mut here = proof.opened(alloc)?;
+    let stays = keep(alloc, formula, &proof, marks, &mut here)?;
+    Ok(KeptSteps::of(proof, stays, here))
+}
+
 /// What is left of an accepted proof.
 fn trimmed_of(alloc: Global, formula: &Formula, proof: StepStore) -> Result<Trimmed, AllocError>
     ensures { IfOk result (Trims formula.now proof) }
 {
     let found = go_back(alloc, formula, &proof)?;
     let FoundNeeded { marks, wanted } = found;
-    let clauses = numbers_in(alloc, &wanted, Kind::Clauses, formula.clause_count())?;
-    let parities = numbers_in(alloc, &wanted, Kind::Parities, formula.parity_count())?;
-    let mut here = proof.opened(alloc)?;
-    let stays = keep(alloc, formula, &proof, marks, &mut here)?;
+    let named = named_constraints(alloc, formula, &wanted)?;
+    let steps = kept_of(alloc, formula, proof, marks)?;
+    let NamedConstraints { clauses, parities } = named;
     Ok(Trimmed {
-        steps: KeptSteps::of(proof, stays, here),
+        steps,
         clauses,
         parities,
     })
