@@ -4,7 +4,7 @@ use Rattle.std.specs.Int.RustNames.{bit_xor}
 use Rattle.std.specs.Simd.Lanes.{zip2}
 use Rattle.std.proofs.lemmas.List.{get_or-set_other, length-set, set-get_or, set-set}
 use Rattle.cx_base.specs.Literals.{differ}
-use Rattle.gf2_rows.specs.declared.head.Head.{Head}
+use Rattle.gf2_rows.specs.declared.head.TableHead.{TableHead}
 use Rattle.gf2_rows.specs.Bits.{bits_of}
 use Rattle.gf2_rows.specs.Few.{AddsWithin, AddsPart}
 use Rattle.gf2_rows.specs.Heads.{words_from, row_in, rows_in, blank, start_at, width_at, AreRows}
@@ -14,7 +14,7 @@ use Rattle.gf2_rows.proofs.Laying.{changed_by_set, words_set, length-rows, row_a
 use Rattle.gf2_rows.proofs.Parts.{whole_words, part-set, part_added}
 
 -- ---- a head changes
-module _ (capacity : ℕ) (pool : List ℕ) (heads : List Head) (row : ℕ) (old head : Head) (lt : row < length heads) (at : old ≡ get_or heads row old)
+module _ (capacity : ℕ) (pool : List ℕ) (heads : List TableHead) (row : ℕ) (old head : TableHead) (lt : row < length heads) (at : old ≡ get_or heads row old)
     (starts : head.start ≡ old.start) (widths : length (head.few) ≡ length (old.few)) (rows : AreRows capacity pool heads) where
   same : get_or heads row blank ≡ old
   same = element heads row blank old lt ∙ sym at
@@ -33,7 +33,7 @@ module _ (capacity : ℕ) (pool : List ℕ) (heads : List Head) (row : ℕ) (old
       ∙ set-get_or (rows_in pool heads) row []
 
 -- ---- one word of the pool changes
-module _ (capacity : ℕ) (pool : List ℕ) (heads : List Head) (row start place word : ℕ) (lt : row < length heads) (starts : start_at heads row ≡ Some start)
+module _ (capacity : ℕ) (pool : List ℕ) (heads : List TableHead) (row start place word : ℕ) (lt : row < length heads) (starts : start_at heads row ≡ Some start)
     (place_in : place < length (words_at (rows_in pool heads) row)) (rows : AreRows capacity pool heads) where
   room : start + width_at heads row ≤ length pool
   room = rows.within row start starts
@@ -73,7 +73,7 @@ module _ (capacity : ℕ) (pool : List ℕ) (heads : List Head) (row start place
       ∙ ap (λ l. set l place (bit_xor (get_or l place 0) word)) (sym (whole_words pool heads row start lt starts)))
 
 -- ---- words are added to a part of the pool
-module _ (capacity : ℕ) (pool new words : List ℕ) (heads : List Head) (row start low high : ℕ) (lt : row < length heads) (starts : start_at heads row ≡ Some start)
+module _ (capacity : ℕ) (pool new words : List ℕ) (heads : List TableHead) (row start low high : ℕ) (lt : row < length heads) (starts : start_at heads row ≡ Some start)
     (same : length words ≡ length (words_at (rows_in pool heads) row)) (order : low ≤ high) (within : high ≤ length words)
     (adds : AddsPart pool (start + low) (take (high - low) (drop low words)) new) (rows : AreRows capacity pool heads) where
   part_room : start + width_at heads row ≤ length pool
@@ -122,14 +122,14 @@ abbrev pub IsSummed : ℕ → List (List ℕ) → List (List ℕ) → List ℕ �
 IsSummed row old new words = IsChangedAt row old new × (bits_of (words_at new row) ≡ zip2 differ (bits_of (words_at old row)) (bits_of words))
 
 -- the words that a head has
-pub head_width : (capacity : ℕ) (pool : List ℕ) (heads : List Head) (row : ℕ) (old : Head) (table : List (List ℕ)) → row < length heads → old ≡ get_or heads row old → AreRows capacity pool heads
+pub head_width : (capacity : ℕ) (pool : List ℕ) (heads : List TableHead) (row : ℕ) (old : TableHead) (table : List (List ℕ)) → row < length heads → old ≡ get_or heads row old → AreRows capacity pool heads
     → rows_in pool heads ≡ table → length (words_at table row) ≡ length (old.few)
 head_width capacity pool heads row old table lt at rows view =
     ap (λ t. length (words_at t row)) (sym view) ∙ ap length (row_at pool heads row blank lt) ∙ length-row capacity pool heads row rows
     ∙ ap (λ h. length (h.few)) (element heads row blank old lt ∙ sym at)
 
 -- all is added to the few words
-pub few_summed : (pool : List ℕ) (heads : List Head) (row : ℕ) (old head : Head) (table : List (List ℕ)) (words : List ℕ) (low from high : ℕ) → row < length heads → old ≡ get_or heads row old
+pub few_summed : (pool : List ℕ) (heads : List TableHead) (row : ℕ) (old head : TableHead) (table : List (List ℕ)) (words : List ℕ) (low from high : ℕ) → row < length heads → old ≡ get_or heads row old
     → rows_in pool heads ≡ table → length words ≡ length (words_at table row) → IsZeroOutside words low high → from ≡ high
     → AddsWithin (row_in pool old) words low from (row_in pool head) → IsSummed row table (rows_in pool (set heads row head)) words
 few_summed pool heads row old head table words low from high lt at view same zero all adds =
@@ -144,7 +144,7 @@ few_summed pool heads row old head table words low from high lt at view same zer
     (subst (λ t. IsSummed row R t words) (sym (rows-set pool heads row head)) whole)
 
 -- the row is laid out whole after some were added, or was before
-pub whole_summed : (pool : List ℕ) (heads : List Head) (row : ℕ) (old head : Head) (table : List (List ℕ)) (words : List ℕ) (low from high : ℕ) → row < length heads → old ≡ get_or heads row old
+pub whole_summed : (pool : List ℕ) (heads : List TableHead) (row : ℕ) (old head : TableHead) (table : List (List ℕ)) (words : List ℕ) (low from high : ℕ) → row < length heads → old ≡ get_or heads row old
     → rows_in pool heads ≡ table → length words ≡ length (words_at table row) → IsZeroOutside words low high → low ≤ from → from ≤ high
     → AddsWithin (row_in pool old) words low from (row_in pool head)
     → (laid final : List (List ℕ)) (new : List ℕ) → laid ≡ rows_in pool (set heads row head) → final ≡ set laid row new → AddsWithin (words_at laid row) words from high new
@@ -165,13 +165,13 @@ whole_summed pool heads row old head table words low from high lt at view same z
 
 -- ---- a row is laid out whole, and then changed
 -- the table is as it was
-pub same_table : (capacity : ℕ) (pool : List ℕ) (heads : List Head) (row : ℕ) (old head : Head) (table laid : List (List ℕ)) → row < length heads → old ≡ get_or heads row old
+pub same_table : (capacity : ℕ) (pool : List ℕ) (heads : List TableHead) (row : ℕ) (old head : TableHead) (table laid : List (List ℕ)) → row < length heads → old ≡ get_or heads row old
     → head.start ≡ old.start → length (head.few) ≡ length (old.few) → AreRows capacity pool heads → rows_in pool heads ≡ table → head.few ≡ old.few
     → laid ≡ rows_in pool (set heads row head) → laid ≡ table
 same_table capacity pool heads row old head table laid lt at starts widths rows view words laid_is =
     laid_is ∙ same_rows capacity pool heads row old head lt at starts widths rows words ∙ view
 
-pub laid_word : (table : List (List ℕ)) (capacity : ℕ) (pool : List ℕ) (heads : List Head) (row start place word : ℕ) → row < length table → place < length (words_at table row)
+pub laid_word : (table : List (List ℕ)) (capacity : ℕ) (pool : List ℕ) (heads : List TableHead) (row start place word : ℕ) → row < length table → place < length (words_at table row)
     → rows_in pool heads ≡ table → start_at heads row ≡ Some start → AreRows capacity pool heads
     → (start + place < length pool)
     × (rows_in (set pool (start + place) (bit_xor (get_or pool (start + place) 0) word)) heads ≡ set table row (set (words_at table row) place (bit_xor (get_or (words_at table row) place 0) word)))
@@ -186,9 +186,9 @@ laid_word table capacity pool heads row start place word lt place_in view starts
     )
 
 -- the row has as many words as before, all of them in the pool
-pub laid_room : (pool : List ℕ) (heads : List Head) (row : ℕ) (old head : Head) (table : List (List ℕ)) (words : List ℕ) → row < length heads → old ≡ get_or heads row old
+pub laid_room : (pool : List ℕ) (heads : List TableHead) (row : ℕ) (old head : TableHead) (table : List (List ℕ)) (words : List ℕ) → row < length heads → old ≡ get_or heads row old
     → rows_in pool heads ≡ table → length words ≡ length (words_at table row) → length (row_in pool head) ≡ length (row_in pool old)
-    → (capacity : ℕ) (laid : List ℕ) (after : List Head) (start : ℕ) → AreRows capacity laid after → rows_in laid after ≡ rows_in pool (set heads row head) → start_at after row ≡ Some start
+    → (capacity : ℕ) (laid : List ℕ) (after : List TableHead) (start : ℕ) → AreRows capacity laid after → rows_in laid after ≡ rows_in pool (set heads row head) → start_at after row ≡ Some start
     → (row < length after) × (length words ≡ length (words_at (rows_in laid after) row)) × (start + length words ≤ length laid)
 laid_room pool heads row old head table words lt at view same wide capacity laid after start rows laid_is starts =
     let R : List (List ℕ) = rows_in pool heads in

@@ -6,7 +6,7 @@ use Rattle.std.proofs.lemmas.List.Sums.{sum_by-set, sum_by_push}
 use Rattle.std.proofs.Math.ListN.{get_or-append, get_or-eq_default}
 use Rattle.std.proofs.Math.Seq.{drop-append_seam, take-length}
 use Rattle.std.proofs.lemmas.Bool.{cases_eq, cases_lt}
-use Rattle.gf2_rows.specs.declared.head.Head.{Head}
+use Rattle.gf2_rows.specs.declared.head.TableHead.{TableHead}
 use Rattle.gf2_rows.specs.Heads.{words_from, row_in, rows_in, room_in, room_for, need_of, blank, start_at, width_at, AreRows}
 use Rattle.gf2_rows.specs.Tables.{words_at, IsChangedAt}
 
@@ -22,10 +22,10 @@ pub words_set : (old : List (List ℕ)) (row : ℕ) (words : List ℕ) → row <
 words_set old row words lt = get_or-set_same old row words [] lt
 
 -- ---- rows
-pub length-rows : (pool : List ℕ) (heads : List Head) → length (rows_in pool heads) ≡ length heads
+pub length-rows : (pool : List ℕ) (heads : List TableHead) → length (rows_in pool heads) ≡ length heads
 length-rows pool heads = length-map heads (row_in pool)
 
-pub row_at : (pool : List ℕ) (heads : List Head) (r : ℕ) (d : Head) → r < length heads → words_at (rows_in pool heads) r ≡ row_in pool (get_or heads r d)
+pub row_at : (pool : List ℕ) (heads : List TableHead) (r : ℕ) (d : TableHead) → r < length heads → words_at (rows_in pool heads) r ≡ row_in pool (get_or heads r d)
 row_at pool heads r d lt = get_or-map (row_in pool) heads r d [] lt
 
 -- the words of a row that is laid out whole within the pool are as many as those it has
@@ -52,11 +52,11 @@ words_same pool new few (Some s) room more same =
     let in' : i < length few = omega arith in
     get_or-part new (length few) s i in' ∙ same s refl i in' ∙ sym (get_or-part pool (length few) s i in'))
 
-pub length-row : (capacity : ℕ) (pool : List ℕ) (heads : List Head) (r : ℕ) → AreRows capacity pool heads → length (row_in pool (get_or heads r blank)) ≡ width_at heads r
+pub length-row : (capacity : ℕ) (pool : List ℕ) (heads : List TableHead) (r : ℕ) → AreRows capacity pool heads → length (row_in pool (get_or heads r blank)) ≡ width_at heads r
 length-row capacity pool heads r rows = length-words_from pool ((get_or heads r blank).few) (start_at heads r) (λ s e. rows.within r s e)
 
 -- ---- a head changes, but not where its row begins, nor how many words it has
-module _ (heads : List Head) (row : ℕ) (head : Head) (lt : row < length heads)
+module _ (heads : List TableHead) (row : ℕ) (head : TableHead) (lt : row < length heads)
     (starts : head.start ≡ start_at heads row) (widths : length (head.few) ≡ width_at heads row) where
   start_kept : (r : ℕ) → start_at (set heads row head) r ≡ start_at heads r
   start_kept r =
@@ -78,7 +78,7 @@ module _ (heads : List Head) (row : ℕ) (head : Head) (lt : row < length heads)
 
   pub head_changed : (capacity : ℕ) (pool : List ℕ) → AreRows capacity pool heads → AreRows capacity pool (set heads row head)
   head_changed capacity pool rows =
-      let old : Head = get_or heads row blank in
+      let old : TableHead = get_or heads row blank in
       let sums : sum_by room_for (set heads row head) + room_for old ≡ sum_by room_for heads + room_for head = sum_by-set room_for heads row head blank lt in
       let same : room_for head ≡ room_for old = ap (room_in (head.few)) starts ∙ room_by (head.few) (old.few) (old.start) widths in
       let all = rows.room in
@@ -89,7 +89,7 @@ module _ (heads : List Head) (row : ℕ) (head : Head) (lt : row < length heads)
       }
 
 -- ---- a row is laid out whole at the end of the pool
-module _ (capacity : ℕ) (pool : List ℕ) (heads : List Head) (row : ℕ) (head : Head) (lt : row < length heads)
+module _ (capacity : ℕ) (pool : List ℕ) (heads : List TableHead) (row : ℕ) (head : TableHead) (lt : row < length heads)
     (few : start_at heads row ≡ None) (starts : head.start ≡ Some (length pool)) (words : head.few ≡ (get_or heads row blank).few) (rows : AreRows capacity pool heads) where
   others_kept : (r : ℕ) → r ≢ row → get_or (set heads row head) r blank ≡ get_or heads r blank
   others_kept r ne = get_or-set_other heads row r head blank ne
@@ -109,7 +109,7 @@ module _ (capacity : ℕ) (pool : List ℕ) (heads : List Head) (row : ℕ) (hea
 
   pub laid_whole : AreRows capacity (pool ++ head.few) (set heads row head)
   laid_whole =
-      let old : Head = get_or heads row blank in
+      let old : TableHead = get_or heads row blank in
       let sums : sum_by room_for (set heads row head) + room_for old ≡ sum_by room_for heads + room_for head = sum_by-set room_for heads row head blank lt in
       let freed : room_for old ≡ length (old.few) = ap (room_in (old.few)) few in
       let taken : room_for head ≡ 0 = ap (room_in (head.few)) starts in
@@ -168,7 +168,7 @@ module _ (capacity : ℕ) (pool : List ℕ) (heads : List Head) (row : ℕ) (hea
       ∙ sym (row_at pool heads r blank in_old))
 
 -- ---- the words of one row change within the pool
-module _ (capacity : ℕ) (pool new : List ℕ) (heads : List Head) (row start : ℕ) (lt : row < length heads) (starts : start_at heads row ≡ Some start)
+module _ (capacity : ℕ) (pool new : List ℕ) (heads : List TableHead) (row start : ℕ) (lt : row < length heads) (starts : start_at heads row ≡ Some start)
     (long : length new ≡ length pool) (outside : (i : ℕ) → (i < start) ⊎ (start + width_at heads row ≤ i) → get_or new i 0 ≡ get_or pool i 0)
     (rows : AreRows capacity pool heads) where
   pub row_changed : rows_in new heads ≡ set (rows_in pool heads) row (take (width_at heads row) (drop start new))
@@ -194,7 +194,7 @@ module _ (capacity : ℕ) (pool new : List ℕ) (heads : List Head) (row start :
       ])
 
 -- ---- one head changes
-pub rows-set : (pool : List ℕ) (heads : List Head) (row : ℕ) (head : Head) → rows_in pool (set heads row head) ≡ set (rows_in pool heads) row (row_in pool head)
+pub rows-set : (pool : List ℕ) (heads : List TableHead) (row : ℕ) (head : TableHead) → rows_in pool (set heads row head) ≡ set (rows_in pool heads) row (row_in pool head)
 rows-set pool heads row head = map-set (row_in pool) heads row head
 
 pub element : {X : Type 0} (xs : List X) (i : ℕ) (d e : X) → i < length xs → get_or xs i d ≡ get_or xs i e
@@ -203,13 +203,13 @@ element (x ∷ xs) zero d e lt = refl
 element (x ∷ xs) (suc i) d e lt = element xs i d e (omega arith)
 
 -- ---- a zero row is appended
-abbrev pub few_head : List ℕ → Head
+abbrev pub few_head : List ℕ → TableHead
 few_head few = record { start = None; few = few }
 
-abbrev pub zero_head : ℕ → Head
+abbrev pub zero_head : ℕ → TableHead
 zero_head w = few_head (replicate w 0)
 
-module _ (capacity : ℕ) (pool : List ℕ) (heads : List Head) (w : ℕ) (rows : AreRows capacity pool heads) where
+module _ (capacity : ℕ) (pool : List ℕ) (heads : List TableHead) (w : ℕ) (rows : AreRows capacity pool heads) where
   pushed_before : (r : ℕ) → r < length heads → get_or (heads ++ zero_head w ∷ []) r blank ≡ get_or heads r blank
   pushed_before r lt = get_or-append heads (zero_head w ∷ []) blank r lt
 
@@ -247,10 +247,10 @@ module _ (capacity : ℕ) (pool : List ℕ) (heads : List Head) (w : ℕ) (rows 
   }
 
 -- laid out whole, a row needs no more than before
-pub laid_need : (pool : List ℕ) (heads : List Head) (row : ℕ) (head : Head) → row < length heads → start_at heads row ≡ None → head.start ≡ Some (length pool) → head.few ≡ (get_or heads row blank).few
+pub laid_need : (pool : List ℕ) (heads : List TableHead) (row : ℕ) (head : TableHead) → row < length heads → start_at heads row ≡ None → head.start ≡ Some (length pool) → head.few ≡ (get_or heads row blank).few
     → need_of (pool ++ head.few) (set heads row head) ≡ need_of pool heads
 laid_need pool heads row head lt few starts words =
-    let old : Head = get_or heads row blank in
+    let old : TableHead = get_or heads row blank in
     let sums : sum_by room_for (set heads row head) + room_for old ≡ sum_by room_for heads + room_for head = sum_by-set room_for heads row head blank lt in
     let freed : room_for old ≡ length (old.few) = ap (room_in (old.few)) few in
     let taken : room_for head ≡ 0 = ap (room_in (head.few)) starts in
@@ -258,7 +258,7 @@ laid_need pool heads row head lt few starts words =
     omega (arith, length-append pool (head.few), sums, freed, taken, same)
 
 -- a row is laid out whole: it begins at the end of the pool, which is followed by its words
-pub laid_out_rows : (capacity : ℕ) (pool new : List ℕ) (heads : List Head) (row : ℕ) (old head : Head) (place : ℕ) → row < length heads → old ≡ get_or heads row old
+pub laid_out_rows : (capacity : ℕ) (pool new : List ℕ) (heads : List TableHead) (row : ℕ) (old head : TableHead) (place : ℕ) → row < length heads → old ≡ get_or heads row old
     → old.start ≡ None → head.start ≡ Some place → place ≡ length pool → head.few ≡ old.few → new ≡ pool ++ old.few → AreRows capacity pool heads
     → AreRows capacity new (set heads row head) × (rows_in new (set heads row head) ≡ rows_in pool heads) × (need_of new (set heads row head) ≡ need_of pool heads)
 laid_out_rows capacity pool new heads row old head place lt at few starts here words items rows =

@@ -7,7 +7,7 @@ use Rattle.std.specs.Simd.Lanes.{zip2}
 use borrow.Rule.Slice.PartMut.{mid_of, post_of, put_mid}
 use Rattle.std.proofs.lemmas.Bool.{cases_eq, cases_lt}
 use Rattle.cx_base.specs.Literals.{differ}
-use Rattle.gf2_rows.specs.declared.head.Head.{Head}
+use Rattle.gf2_rows.specs.declared.head.TableHead.{TableHead}
 use Rattle.gf2_rows.specs.Bits.{word_bit, bit_of, bits_of}
 use Rattle.gf2_rows.specs.Few.{AddsWithin, AddsPart}
 use Rattle.gf2_rows.specs.Heads.{words_from, rows_in, blank, start_at, width_at}
@@ -16,7 +16,7 @@ use Rattle.gf2_rows.proofs.Words.{bit_past_end, bit_of_sum}
 use Rattle.gf2_rows.proofs.Laying.{row_at, length-part, get_or-part}
 
 -- the words of a row that is laid out whole
-pub whole_words : (pool : List ℕ) (heads : List Head) (row start : ℕ) → row < length heads → start_at heads row ≡ Some start
+pub whole_words : (pool : List ℕ) (heads : List TableHead) (row start : ℕ) → row < length heads → start_at heads row ≡ Some start
     → words_at (rows_in pool heads) row ≡ take (width_at heads row) (drop start pool)
 whole_words pool heads row start lt starts = row_at pool heads row blank lt ∙ ap (words_from pool ((get_or heads row blank).few)) starts
 

@@ -7,13 +7,13 @@ use crate::few::FewWords;
 
 /// A row: its words while few of them are not zero, and where they begin in the pool once they are laid out whole.
 #[derive(Drop)]
-pub(crate) struct Head {
+pub(crate) struct TableHead {
     pub(crate) start: Option<usize>,
     /// All the row's words while they are not laid out whole, and then as many.
     pub(crate) few: FewWords,
 }
 
-impl Head {
+impl TableHead {
     ghost use Rattle.gf2_rows.specs.Heads.{row_in};
 
     /// Adds to the word at `place`, unless the row is laid out whole or has to be.

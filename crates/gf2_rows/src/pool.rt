@@ -4,7 +4,7 @@ ghost use Rattle.gf2_rows.specs.Few.{AddsPart};
 ghost use Rattle.gf2_rows.specs.Heads.{rows_in, start_at, need_of, AreRows};
 
 use crate::few::{FEW, FewWords};
-use crate::head::Head;
+use crate::head::TableHead;
 use crate::lanes::add_into;
 use std::alloc::AllocError;
 
@@ -38,7 +38,7 @@ fn append_zeros(pool: &mut Vec<u64>, count: usize) -> usize
 
 /// Lays a row out whole at the end of the pool, and gives the place of its first word.
 #[inline(never)]
-fn lay_out(head: &mut Head, pool: &mut Vec<u64>) -> usize
+fn lay_out(head: &mut TableHead, pool: &mut Vec<u64>) -> usize
     requires { vec_len pool.old + length head.old.few ≤ vec_capacity pool.old }
     ensures place { result ≡ vec_len pool.old }
     ensures start { head.new.start ≡ Some result }
@@ -54,7 +54,7 @@ fn lay_out(head: &mut Head, pool: &mut Vec<u64>) -> usize
 
 /// Where a row begins in the pool. It is laid out whole if it is not yet.
 #[inline]
-pub(crate) fn whole_start(heads: &mut Vec<Head>, pool: &mut Vec<u64>, row: usize) -> usize
+pub(crate) fn whole_start(heads: &mut Vec<TableHead>, pool: &mut Vec<u64>, row: usize) -> usize
     requires row_in { row < vec_len heads.old }
     requires rows { AreRows (vec_capacity pool.old) pool.old.items heads.old.items }
     ensures rows { AreRows (vec_capacity pool.new) pool.new.items heads.new.items }
@@ -72,7 +72,7 @@ pub(crate) fn whole_start(heads: &mut Vec<Head>, pool: &mut Vec<u64>, row: usize
 }
 
 /// Appends a zero row for which there is room. A row of few words is laid out whole at once.
-fn push_row(heads: &mut Vec<Head>, pool: &mut Vec<u64>, width: usize)
+fn push_row(heads: &mut Vec<TableHead>, pool: &mut Vec<u64>, width: usize)
     requires few { width < 2 ^ 32 }
     requires rows { AreRows (vec_capacity pool.old) pool.old.items heads.old.items }
     requires heads { vec_len heads.old < vec_capacity heads.old }
@@ -83,7 +83,7 @@ fn push_row(heads: &mut Vec<Head>, pool: &mut Vec<u64>, width: usize)
     ensures room { (vec_capacity pool.new ≡ vec_capacity pool.old) × (need_of pool.new.items heads.new.items ≡ need_of pool.old.items heads.old.items + width) }
 {
     let row = heads.len();
-    heads.push_reserved(Head {
+    heads.push_reserved(TableHead {
         start: None,
         few: FewWords::make(width),
     });
@@ -93,7 +93,7 @@ fn push_row(heads: &mut Vec<Head>, pool: &mut Vec<u64>, width: usize)
 }
 
 /// Makes zero rows of these widths.
-pub(crate) fn lay_rows(widths: &[usize], heads: &mut Vec<Head>, pool: &mut Vec<u64>)
+pub(crate) fn lay_rows(widths: &[usize], heads: &mut Vec<TableHead>, pool: &mut Vec<u64>)
     requires few { (i : ℕ) → i < length widths.now → slice_index widths.now i < 2 ^ 32 }
     requires empty { (heads.old.items ≡ []) × (pool.old.items ≡ []) }
     requires heads { length widths.now ≤ vec_capacity heads.old }

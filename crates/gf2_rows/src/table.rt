@@ -6,7 +6,7 @@ ghost use Rattle.cx_base.specs.Literals.{differ};
 ghost use Rattle.gf2_rows.specs.Bits.{bits_of, bit_of};
 ghost use Rattle.gf2_rows.specs.Tables.{words_at, IsChangedAt, IsZeroOutside};
 
-use crate::head::Head;
+use crate::head::TableHead;
 use crate::pool::{add_part, lay_rows, part, total_of, whole_start};
 use crate::word_row::WordRow;
 use std::alloc::{AllocError, Global};
@@ -18,7 +18,7 @@ use std::marker::Model;
 /// are not zero. Then it is laid out whole, in memory that was taken when the table was made, and stays so.
 #[derive(Drop)]
 pub struct WordTable {
-    heads: Vec<Head>,
+    heads: Vec<TableHead>,
     /// The words of the rows that are laid out whole, with capacity for those of all the others.
     pool: Vec<u64>,
 }
