@@ -1,5 +1,5 @@
 -- Rows whose words are kept in tables.
-use Rattle.std.proofs.Common.{◌≡◌, ◌≢◌, ℕ, ◌+◌, ◌*◌, ◌/◌, ◌%◌, ◌<◌, ◌≤◌, Bool, true, false, cond, not, eqb, nat_eq, List, [], ◌∷◌, ◌++◌, map, take, length, get_or, set, refl, sym, ap, ◌∙◌, subst, arith, inl, inr}
+use Rattle.std.proofs.Common.{◌≡◌, ◌≢◌, ℕ, ◌+◌, ◌*◌, ◌/◌, ◌%◌, ◌<◌, Bool, true, false, cond, not, eqb, nat_eq, List, [], ◌∷◌, ◌++◌, map, take, length, get_or, set, refl, sym, ap, ◌∙◌, subst, arith, inl, inr}
 use Rattle.std.proofs.Math.ListN.{get_or-eq_default, length-set, replicate}
 use Rattle.std.proofs.lemmas.List.{get_or-map as get_or-map-within, get_or-set_other, get_or-set_same, length-map, map-append, take_more, get_or-replicate, length-replicate}
 use Rattle.std.proofs.lemmas.List.FromFn.{get_or-map-range_with_len, length-map-range_with_len}
@@ -12,12 +12,11 @@ use Rattle.gf2_rows.specs.Bits.{bit_of, bits_of, word_bit}
 use Rattle.gf2_rows.specs.Tables.{words_at, IsChangedAt}
 use Rattle.gf2_rows.proofs.Words.{bit_of_sum, bit_past_end, bits_turned}
 use Rattle.gf2_matrix.specs.declared.packed.PackedRow.{PackedRow}
-use Rattle.gf2_matrix.specs.declared.packed.Part.{Part}
 use Rattle.gf2_matrix.specs.declared.row_tables.RowHead.{RowHead}
 use Rattle.gf2_matrix.specs.ByColumn.{AreSized, AreClear}
 use Rattle.gf2_matrix.specs.Made.{AreEmptyRowsOf, IsEmptyRow}
-use Rattle.gf2_matrix.specs.Packed.{Window, window, window_at, start, IsSumRow}
-use Rattle.gf2_matrix.specs.Rows.{no_head, empty_head, row_of, rows_of, AreTables, IsOnlyChange, IsSourcedRow, IsTurnedRow}
+use Rattle.gf2_matrix.specs.Packed.{Window, window_at, start, IsSumRow}
+use Rattle.gf2_matrix.specs.Rows.{no_head, empty_head, row_of, rows_of, IsOnlyChange, IsSourcedRow, IsTurnedRow}
 use Rattle.gf2_matrix.specs.Views.{words_for}
 
 -- ---- reading a row

@@ -1,9 +1,8 @@
-use Rattle.std.proofs.Common.{◌≡◌, ◌∙◌, ◌+◌, ◌-◌, ◌*◌, ◌%◌, ◌<◌, ◌≤◌, arith, sym, ap, subst, length, get_or, ℕ}
-use Rattle.gf2_rows.specs.Tables.{words_at}
+use Rattle.std.proofs.Common.{◌∙◌, ◌-◌, ◌*◌, ◌%◌, ◌<◌, ◌≤◌, arith, sym, ap, subst, length, get_or}
 use Rattle.gf2_matrix.specs.Packed.{window, start}
 use Rattle.gf2_matrix.specs.Views.{words_for}
 use Rattle.gf2_matrix.proofs.Updates.{same_read}
-use Rattle.gf2_matrix.proofs.ByColumns.{AreEntered, all_entered, entered_all, entered_more, entered_none, entry_high, entry_low, entry_words, few_for, place_in, start_in}
+use Rattle.gf2_matrix.proofs.ByColumns.{all_entered, entered_all, entered_more, entered_none, entry_high, entry_low, entry_words, few_for, place_in, start_in}
 use Rattle.gf2_matrix.proofs.by_column.by_column.Goals as goal
 use Rattle.gf2_matrix.proofs.by_column.by_column.Goals.{In-loop-place}
 

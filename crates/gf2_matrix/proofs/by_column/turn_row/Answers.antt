@@ -1,6 +1,6 @@
-use Rattle.std.proofs.Common.{◌∙◌, ◌-◌, ◌*◌, ◌<◌, eqb, sym, ap, subst, length, arith}
+use Rattle.std.proofs.Common.{◌-◌, ◌*◌, ◌<◌, eqb, sym, subst, length, arith}
 use Rattle.gf2_rows.specs.Tables.{words_at}
-use Rattle.gf2_matrix.proofs.ByColumns.{turned_none, turned_past, turned_all, turned_next}
+use Rattle.gf2_matrix.proofs.ByColumns.{turned_past, turned_all, turned_next}
 use Rattle.gf2_matrix.proofs.RowTables.{turned_bit}
 use Rattle.gf2_matrix.proofs.by_column.turn_row.Goals as goal
 

@@ -1,8 +1,8 @@
-use Rattle.std.proofs.Common.{◌∙◌, ◌-◌, ◌*◌, ◌<◌, sym, ap, subst, length, arith}
+use Rattle.std.proofs.Common.{◌∙◌, ◌-◌, ◌*◌, ◌<◌, sym, length, arith}
 use Rattle.gf2_rows.specs.Bits.{bit_of}
 use Rattle.gf2_rows.specs.Tables.{words_at}
 use Rattle.gf2_rows.proofs.Words.{bit_of_sum}
-use Rattle.gf2_matrix.proofs.ByColumns.{turned_none, turned_past, turned_all, turned_next}
+use Rattle.gf2_matrix.proofs.ByColumns.{turned_past, turned_all, turned_next}
 use Rattle.gf2_matrix.proofs.by_column.turn_sets.Goals as goal
 
 pub returns-then-column-rows : goal.returns-then-column-rows

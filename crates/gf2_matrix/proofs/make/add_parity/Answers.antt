@@ -1,11 +1,21 @@
-use Rattle.std.proofs.Common.{◌≡◌, ◌∙◌, ◌+◌, ◌*◌, ◌<◌, ℕ, sym, ap, subst, get_or, length, arith}
-use Rattle.gf2_matrix.specs.declared.packed.PackedRow.{PackedRow}
+use Rattle.std.proofs.Common.{◌≡◌, ◌∙◌, ◌+◌, ap, subst, get_or, length, arith}
+use Rattle.cx_base.specs.declared.literal.TheConstants.{MAX_VARIABLE}
+use Rattle.parity_engine.proofs.Rising.{columns_rise}
 use Rattle.gf2_matrix.specs.Columns.{place}
 use Rattle.gf2_matrix.specs.Packed.{window}
 use Rattle.gf2_matrix.specs.Rows.{IsSourcedRow}
-use Rattle.gf2_matrix.proofs.Made.{row_made}
+use Rattle.gf2_matrix.proofs.Made.{few_columns, row_made}
 use Rattle.gf2_matrix.proofs.RowTables.{changes}
 use Rattle.gf2_matrix.proofs.make.add_parity.Goals as goal
+
+pub add_literals-requires-clause-few : goal.add_literals-requires-clause-few
+add_literals-requires-clause-few c = rw c.deref.ensures.value (few_columns MAX_VARIABLE c.args.at.now.columns.items c.requires.part.columns)
+
+pub add_literals-requires-clause-rise : goal.add_literals-requires-clause-rise
+add_literals-requires-clause-rise c = rw c.deref.ensures.value (columns_rise 1 MAX_VARIABLE c.args.at.now.columns.items c.requires.part.columns)
+
+pub place_of-requires : goal.place_of-requires
+place_of-requires c = rw c.deref-2.ensures.value (columns_rise 1 4294967295 c.args.at.now.numbers.items c.requires.part.numbers)
 
 pub add_literals-requires-clause-room : goal.add_literals-requires-clause-room
 add_literals-requires-clause-room c = λ d. let size = (c.requires.empty d).sized.0 in rw (c.deref.ensures.value, c.start.ensures) (omega arith)

@@ -1,4 +1,4 @@
-use Rattle.std.proofs.Common.{◌≡◌, ◌∙◌, ◌+◌, ◌-◌, ◌*◌, ◌<◌, sym, subst, length, get_or, arith}
+use Rattle.std.proofs.Common.{◌≡◌, ◌+◌, ◌-◌, ◌*◌, sym, subst, length, get_or, arith}
 use Rattle.gf2_rows.specs.Tables.{IsZeroOutside}
 use Rattle.gf2_matrix.specs.declared.packed.PackedRow.{PackedRow}
 use Rattle.gf2_matrix.specs.Packed.{AreLengths}

@@ -1,7 +1,6 @@
-use Rattle.std.proofs.Common.{◌≡◌, ℕ, ◌∙◌, ◌+◌, ◌++◌, ◌∷◌, ◌<◌, ◌≤◌, [], map, length, get_or, sym, ap, subst, arith}
+use Rattle.std.proofs.Common.{◌≡◌, ℕ, ◌∙◌, ◌+◌, ◌++◌, ◌∷◌, [], map, length, get_or, sym, ap, arith}
 use Rattle.std.proofs.lemmas.List.{take_all}
-use Rattle.cx_base.specs.declared.literal.TheConstants.{MAX_VARIABLE}
-use Rattle.gf2_matrix.specs.Packed.{Window, window, window_at, start}
+use Rattle.gf2_matrix.specs.Packed.{Window, window, window_at}
 use Rattle.gf2_matrix.specs.Views.{words_for}
 use Rattle.gf2_matrix.proofs.Rows.{part_here}
 use Rattle.gf2_matrix.proofs.RowTables.{mapped_more}

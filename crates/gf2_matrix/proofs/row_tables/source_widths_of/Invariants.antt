@@ -1,5 +1,5 @@
-use Rattle.std.proofs.Common.{◌≡◌, ◌+◌, map, take, length}
-use Rattle.gf2_matrix.specs.Packed.{window, window_at, start}
+use Rattle.std.proofs.Common.{◌≡◌, map, take, length}
+use Rattle.gf2_matrix.specs.Packed.{window, window_at}
 use Rattle.gf2_matrix.specs.Views.{words_for}
 use Rattle.gf2_matrix.proofs.row_tables.source_widths_of.Given as goal
 

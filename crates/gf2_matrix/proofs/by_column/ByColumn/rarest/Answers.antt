@@ -1,4 +1,4 @@
-use Rattle.std.proofs.Common.{◌≡◌, ℕ, ◌∙◌, ◌<◌, ◌≤◌, ◌+◌, ◌-◌, not, List, length, get_or, Option, Some, sym, ap, subst, arith, true≢false}
+use Rattle.std.proofs.Common.{◌≡◌, ℕ, ◌∙◌, ◌<◌, ◌≤◌, ◌+◌, ◌-◌, not, length, Option, Some, sym, ap, subst, arith, true≢false}
 use Rattle.std.specs.Option.{is_some}
 use Rattle.gf2_rows.specs.Tables.{words_at}
 use Rattle.gf2_matrix.specs.ByColumn.{set_size}

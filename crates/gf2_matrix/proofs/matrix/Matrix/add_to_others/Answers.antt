@@ -2,8 +2,8 @@ use Rattle.std.proofs.Common.{◌≡◌, ℕ, ◌+◌, ◌*◌, ◌/◌, ◌<◌
 use Rattle.std.proofs.lemmas.List.{length-map, get_or-set_same}
 use Rattle.gf2_matrix.specs.Views.{words_for}
 use Rattle.gf2_matrix.specs.declared.packed.PackedRow.{PackedRow}
-use Rattle.gf2_matrix.specs.Content.{Content, IsOfGiven, pivoted, has, row_at}
-use Rattle.gf2_matrix.specs.Packed.{Window, window, window_at, start, IsSameRow, IsSized, ArePlacesIn, ArePivoted, IsMatrix, content, unpacked}
+use Rattle.gf2_matrix.specs.Content.{Content, pivoted, has, row_at}
+use Rattle.gf2_matrix.specs.Packed.{Window, window, window_at, start, IsSameRow, IsSized, ArePlacesIn, ArePivoted, IsMatrix, unpacked}
 use Rattle.gf2_matrix.proofs.Rows.{row_within, rows_after, matrix_after, part_read, window_small, members_in, members_sized, pivot_at, bit_low}
 use Rattle.gf2_matrix.specs.Packed.{takes_pivot}
 use Rattle.gf2_matrix.specs.Columns.{place}

@@ -1,5 +1,4 @@
-use Rattle.std.proofs.Common.{◌≡◌, ◌∙◌, ◌*◌, ◌<◌, eqb, false, length, get_or, sym, ap, subst}
-use Rattle.gf2_rows.specs.Tables.{words_at}
+use Rattle.std.proofs.Common.{◌∙◌, ◌*◌, ◌<◌, eqb, false, length, get_or, sym, ap, subst}
 use Rattle.gf2_matrix.specs.declared.packed.PackedRow.{PackedRow}
 use Rattle.gf2_matrix.specs.Rows.{row_of, rows_of, IsOnlyChange, IsTurnedRow}
 use Rattle.gf2_matrix.proofs.RowTables.{head_within, row_read, flipped_only, flipped_row}

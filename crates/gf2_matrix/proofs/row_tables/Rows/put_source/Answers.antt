@@ -1,5 +1,4 @@
-use Rattle.std.proofs.Common.{◌≡◌, ◌∙◌, ◌*◌, ◌<◌, length, get_or, sym, ap, subst}
-use Rattle.gf2_rows.specs.Tables.{words_at}
+use Rattle.std.proofs.Common.{◌∙◌, ◌*◌, ◌<◌, length, get_or, sym, ap, subst}
 use Rattle.gf2_matrix.specs.declared.packed.PackedRow.{PackedRow}
 use Rattle.gf2_matrix.specs.Rows.{row_of, rows_of, IsOnlyChange, IsSourcedRow}
 use Rattle.gf2_matrix.proofs.RowTables.{head_within, row_read, sourced_only, sourced_row}

@@ -1,6 +1,5 @@
 use Rattle.std.proofs.Common.{◌≡◌, ◌∙◌, ◌<◌, length, get_or, sym, ap, subst}
-use Rattle.gf2_matrix.specs.declared.row_tables.RowHead.{RowHead}
-use Rattle.gf2_matrix.specs.Rows.{no_head, row_of}
+use Rattle.gf2_matrix.specs.Rows.{no_head}
 use Rattle.gf2_matrix.proofs.Updates.{same_read}
 use Rattle.gf2_matrix.proofs.RowTables.{head_within, row_read}
 use Rattle.gf2_matrix.proofs.row_tables.Rows.row.Goals as goal

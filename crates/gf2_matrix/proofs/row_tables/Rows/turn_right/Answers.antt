@@ -1,4 +1,4 @@
-use Rattle.std.proofs.Common.{◌≡◌, ◌∙◌, ◌<◌, Bool, false, not, length, get_or, set, sym, ap, subst}
+use Rattle.std.proofs.Common.{◌≡◌, ◌∙◌, ◌<◌, Bool, false, not, get_or, set, sym, ap, subst}
 use mathlib.Core.Bool.{beq}
 use Rattle.cx_base.specs.Literals.{differ}
 use Rattle.gf2_rows.proofs.Words.{differ-beq}
