@@ -75,7 +75,7 @@ ones-one x small =
     let one = ones_more (x ∷ []) 0 small in
     sym all ∙ one ∙ zero-add (count_ones x)
 
-ones_of_zero : count_ones 0 ≡ 0
+pub ones_of_zero : count_ones 0 ≡ 0
 unfolding count_ones
 ones_of_zero = refl
 

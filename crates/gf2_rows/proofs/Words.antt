@@ -151,6 +151,17 @@ pub ones_of_row : (words : List ℕ) (n : ℕ) → n ≡ length words → count_
 unfolding bits_of
 ones_of_row words n e = ap (λ m. count_by (λ b. b) (map (bit_of words) (range_with_len 0 (64 * m)))) e
 
+-- the ones before a word are no more than all
+pub ones_before : (words : List ℕ) (i : ℕ) → i ≤ length words → count_by (λ b. b) (map (bit_of words) (range_with_len 0 (64 * i))) ≤ count_by (λ b. b) (bits_of words)
+ones_before words i within =
+    let rest : ℕ = 64 * (length words - i) in
+    let parts =
+    ap (count_by (λ b. b)) (ap (map (bit_of words)) (range_split 0 (64 * i) rest) ∙ map-append (bit_of words) (range_with_len 0 (64 * i)) (range_with_len (0 + 64 * i) rest))
+    ∙ sum_by-append (λ b. cond b 1 0) (map (bit_of words) (range_with_len 0 (64 * i))) (map (bit_of words) (range_with_len (0 + 64 * i) rest)) in
+    let long : 64 * i + rest ≡ 64 * length words = omega arith in
+    let all = ap (λ n. count_by (λ b. b) (map (bit_of words) (range_with_len 0 n))) long ∙ ones_of_row words (length words) refl in
+    omega (arith, parts, all)
+
 -- the words below n are sums, and the others are as before
 abbrev pub IsAddedBelow : List ℕ → List ℕ → List ℕ → ℕ → Type 0
 IsAddedBelow old other new n =

@@ -3,7 +3,7 @@ ghost use Rattle.std.specs.Prelude.{◌≡◌, ℕ, ◌+◌, ◌*◌, ◌/◌, �
 ghost use Rattle.std.specs.Int.RustNames.{bit_xor};
 ghost use Rattle.std.specs.Simd.Lanes.{zip2};
 ghost use Rattle.cx_base.specs.Parity.{odd_sum};
-ghost use Rattle.gf2_rows.specs.Bits.{bits_of, bit_of, is_outside};
+ghost use Rattle.gf2_rows.specs.Bits.{bits_of, bit_of, is_outside, IsCountBelow};
 ghost use Rattle.gf2_rows.specs.Few.{FirstFrom, least_of, is_bit_in, AddsWithin};
 
 use crate::plain::{self, open_bits};
@@ -171,6 +171,13 @@ impl FewWords {
         ensures { result ≡ count_by (λ b. b) (bits_of self.now) }
     {
         plain::ones(&self.words[..self.count])
+    }
+
+    /// The number of ones if it is below `limit`.
+    pub(crate) fn fewer_ones(&self, limit: u64) -> Option<u64>
+        ensures { IsCountBelow limit self.now result }
+    {
+        plain::fewer_ones(&self.words[..self.count], limit)
     }
 
     /// The least position from `from` on that is set.

@@ -4,7 +4,7 @@ ghost use Rattle.std.specs.Simd.Lanes.{zip2};
 ghost use Rattle.std.specs.Slice.Scan.{HoldsNowhere, IsFirstPlace};
 ghost use Rattle.cx_base.specs.Literals.{differ};
 ghost use Rattle.cx_base.specs.Parity.{odd_sum};
-ghost use Rattle.gf2_rows.specs.Bits.{word_bit, bits_of, is_skipped, is_outside};
+ghost use Rattle.gf2_rows.specs.Bits.{word_bit, bits_of, is_skipped, is_outside, IsCountBelow};
 
 /// Adds `other` to `row`, position by position modulo two.
 pub fn add_into(row: &mut [u64], other: &[u64])
@@ -38,6 +38,24 @@ pub fn ones(row: &[u64]) -> u64
         total += u64::from(word.count_ones());
     }
     total
+}
+
+/// The number of ones if it is below `limit`, in at most 4,294,967,295 words. It counts no further than to the limit.
+pub fn fewer_ones(row: &[u64], limit: u64) -> Option<u64>
+    requires { length row.now < 2 ^ 32 }
+    ensures { IsCountBelow limit row.now result }
+{
+    let mut count = 0;
+    for word in row {
+        if *word == 0 {
+            continue;
+        }
+        count += u64::from(word.count_ones());
+        if count >= limit {
+            return None;
+        }
+    }
+    if count < limit { Some(count) } else { None }
 }
 
 /// The least position that is set in `row`, not set in `mask` and not `skip`, in at most 4,294,967,295 words.

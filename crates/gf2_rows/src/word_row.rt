@@ -3,7 +3,7 @@ ghost use Rattle.std.specs.Prelude.{◌≡◌, ℕ, ◌*◌, ◌<◌, ◌≤◌,
 ghost use Rattle.std.specs.Simd.Lanes.{zip2};
 ghost use Rattle.std.specs.Slice.Scan.{HoldsNowhere, IsFirstPlace};
 ghost use Rattle.cx_base.specs.Parity.{odd_sum};
-ghost use Rattle.gf2_rows.specs.Bits.{bits_of, bit_of, is_outside};
+ghost use Rattle.gf2_rows.specs.Bits.{bits_of, bit_of, is_outside, IsCountBelow};
 
 use crate::few::FewWords;
 use std::marker::Model;
@@ -94,6 +94,18 @@ impl<'a> WordRow<'a> {
         match self.kept {
             Kept::Few(few) => few.ones(),
             Kept::Whole(words) => crate::ones(words),
+        }
+    }
+
+    /// The number of ones if it is below `limit`, in at most 4,294,967,295 words. It counts no further than to the limit.
+    #[inline]
+    pub fn fewer_ones(&self, limit: u64) -> Option<u64>
+        requires { length self.now < 2 ^ 32 }
+        ensures { IsCountBelow limit self.now result }
+    {
+        match self.kept {
+            Kept::Few(few) => few.fewer_ones(limit),
+            Kept::Whole(words) => crate::plain::fewer_ones(words, limit),
         }
     }
 
