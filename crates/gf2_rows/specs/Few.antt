@@ -2,6 +2,7 @@
 use Rattle.std.specs.Prelude.{◌≡◌, ℕ, zero, suc, ◌+◌, ◌*◌, ◌/◌, ◌%◌, ◌<◌, ◌≤◌, ◌^◌, Bool, ◌&&◌, eqb, min, List, length, replicate, slice_index, slice_set, Option, Some, None, MatchOption}
 use Rattle.std.specs.Slice.Scan.{HoldsNowhere, IsFirstPlace}
 use Rattle.cx_base.specs.Literals.{differ}
+use Rattle.gf2_rows.specs.declared.few.TheConstants.{FEW}
 use Rattle.gf2_rows.specs.Bits.{word_bit, bit_of}
 
 -- `len` words that are zero, but for `count` ones that are put at their places
@@ -12,7 +13,7 @@ laid_out len (suc n) places words = slice_set (laid_out len n places words) (sli
 -- the places of `count` words are different ones below `len`
 pub record AreFew (len count : ℕ) (places : List ℕ) : Type 0 where
   pub small : len < 2 ^ 32
-  pub room : count ≤ 8
+  pub room : count ≤ FEW
   pub within : (i : ℕ) → i < count → slice_index places i < len
   pub apart : (i j : ℕ) → i < count → j < count → slice_index places i ≡ slice_index places j → i ≡ j
 

@@ -10,7 +10,7 @@ use crate::plain::{self, open_bits};
 use std::marker::Model;
 
 /// How many words are kept with their places at most.
-pub(crate) const FEW: usize = 8;
+pub(crate) const FEW: usize = 16;
 
 /// Words that are zero but for a few, which are kept with their places.
 ///
@@ -38,7 +38,7 @@ impl Model for FewWords {
 /// Which of the first `count` places is this one.
 #[inline]
 fn entry_of(places: &[u32; FEW], count: usize, place: usize) -> Option<usize>
-    requires { count ≤ 8 }
+    requires { count ≤ FEW }
     ensures { MatchOption result
         ((i : ℕ) → i < count → slice_index places.now i ≡ place → ⊥)
         (λ i. (i < count) × (slice_index places.now i ≡ place)) }

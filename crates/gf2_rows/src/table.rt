@@ -14,7 +14,7 @@ use std::marker::Model;
 
 /// Rows of words, each of a width of its own.
 ///
-/// Contracts see the words of each row, laid out whole. A row of more than 8 words takes the memory of 8 until more of them
+/// Contracts see the words of each row, laid out whole. A wide row takes the memory of a few words until more of its words
 /// are not zero. Then it is laid out whole, in memory that was taken when the table was made, and stays so.
 #[derive(Drop)]
 pub struct WordTable {
