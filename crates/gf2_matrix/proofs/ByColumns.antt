@@ -1,16 +1,16 @@
 -- Sets of rows by column.
-use Rattle.std.proofs.Common.{◌≡◌, ◌≢◌, ℕ, ◌+◌, ◌-◌, ◌*◌, ◌<◌, ◌≤◌, Bool, true, false, ◌&&◌, eqb, List, [], ◌∷◌, ◌++◌, Option, Some, None, length, length-append, get_or, refl, sym, ap, ◌∙◌, subst, arith, inl, inr, true≢false}
-use Rattle.std.specs.Option.{is_some}
+use Rattle.std.proofs.Common.{◌≡◌, ℕ, ◌+◌, ◌-◌, ◌*◌, ◌^◌, ◌<◌, ◌≤◌, Bool, true, false, ◌&&◌, eqb, List, [], ◌∷◌, ◌++◌, Option, Some, None, length, length-append, get_or, refl, sym, ap, ◌∙◌, subst, arith, inl, inr, true≢false}
 use Rattle.std.specs.Slice.Scan.{HoldsNowhere, IsFirstPlace}
 use Rattle.cx_base.specs.declared.literal.TheConstants.{MAX_VARIABLE}
 use Rattle.std.proofs.Math.Seq.{get_or-append_seam}
 use Rattle.std.proofs.Math.ListN.{get_or-eq_default}
 use Rattle.std.proofs.lemmas.List.{get_or_append_left}
+use Rattle.std.proofs.lemmas.List.Sums.{count_by-le-length}
 use Rattle.std.proofs.lemmas.Bool.{cases_eq, cases_lt, eq-eqb, ne_eqb}
 use Rattle.cx_base.specs.Literals.{differ}
-use Rattle.gf2_rows.specs.Bits.{bit_of}
+use Rattle.gf2_rows.specs.Bits.{bit_of, bits_of}
 use Rattle.gf2_rows.specs.Tables.{words_at, IsChangedAt}
-use Rattle.gf2_rows.proofs.Words.{bit_past_end}
+use Rattle.gf2_rows.proofs.Words.{bit_past_end, length-bits}
 use Rattle.gf2_matrix.specs.declared.packed.PackedRow.{PackedRow}
 use Rattle.gf2_matrix.specs.declared.by_column.ByColumn.{ByColumn}
 use Rattle.gf2_matrix.specs.Views.{words_for}
@@ -275,34 +275,37 @@ abbrev pub IsColumnBefore : List ℕ → ℕ → ℕ → ℕ → Option ℕ → 
 IsColumnBefore bits first n from None = HoldsNowhere (bit_of bits) first from
 IsColumnBefore bits first n from (Some i) = (i < n) × (bit_of bits (first + i) ≡ true)
 
--- the set of the column has so many rows, and that of no other before the position has fewer
+-- the set of the column has so many rows, and that of no other before the position has fewer. Before the first column the number is the largest
 pub record IsRarestBefore (bits : List ℕ) (first : ℕ) (sets : List (List ℕ)) (from : ℕ) (rarest : Option ℕ) (fewest : ℕ) : Type 0 where
   pub column : IsColumnBefore bits first (length sets) from rarest
+  pub most : rarest ≡ None → fewest ≡ 2 ^ 64 - 1
   pub size : (i : ℕ) → rarest ≡ Some i → set_size (words_at sets i) ≡ fewest
   pub least : (i j : ℕ) → rarest ≡ Some i → j < length sets → first + j < from → bit_of bits (first + j) ≡ true → fewest ≤ set_size (words_at sets j)
 
 -- before the first column
-pub rarest_none : (bits : List ℕ) (first : ℕ) (sets : List (List ℕ)) → IsRarestBefore bits first sets first None 0
+pub rarest_none : (bits : List ℕ) (first : ℕ) (sets : List (List ℕ)) → IsRarestBefore bits first sets first None (2 ^ 64 - 1)
 rarest_none bits first sets = record {
   column = λ k ge lt. absurd (omega arith);
+  most = λ none. refl;
   size = λ i found. absurd (cc);
   least = λ i j found. absurd (cc);
 }
 
 -- as few rows as the column's, in the sets of the columns before
 rarer : (bits : List ℕ) (first : ℕ) (sets : List (List ℕ)) (from : ℕ) (rarest : Option ℕ) (fewest rows : ℕ) → IsRarestBefore bits first sets from rarest fewest
-    → ((i : ℕ) → rarest ≡ Some i → rows < fewest) → (j : ℕ) → j < length sets → first + j < from → bit_of bits (first + j) ≡ true → rows ≤ set_size (words_at sets j)
-rarer bits first sets from None fewest rows so fewer j j_in before on = absurd (true≢false (sym on ∙ so.column (first + j) (omega arith) before))
-rarer bits first sets from (Some i) fewest rows so fewer j j_in before on = let less = fewer i refl in let least = so.least i j refl j_in before on in omega arith
+    → rows < fewest → (j : ℕ) → j < length sets → first + j < from → bit_of bits (first + j) ≡ true → rows ≤ set_size (words_at sets j)
+rarer bits first sets from None fewest rows so less j j_in before on = absurd (true≢false (sym on ∙ so.column (first + j) (omega arith) before))
+rarer bits first sets from (Some i) fewest rows so less j j_in before on = let least = so.least i j refl j_in before on in omega arith
 
--- the next column that the bits have is the first, or its set has fewer rows
+-- the set of the next column that the bits have has fewer rows
 pub rarest_taken : (bits : List ℕ) (first : ℕ) (sets : List (List ℕ)) (from to bit : ℕ) (rarest : Option ℕ) (fewest rows : ℕ) → IsRarestBefore bits first sets from rarest fewest
     → IsFirstPlace (bit_of bits) from to bit → bit < to → first ≤ bit → bit - first < length sets → rows ≡ set_size (words_at sets (bit - first))
-    → ((i : ℕ) → rarest ≡ Some i → rows < fewest) → IsRarestBefore bits first sets (bit + 1) (Some (bit - first)) rows
+    → rows < fewest → IsRarestBefore bits first sets (bit + 1) (Some (bit - first)) rows
 rarest_taken bits first sets from to bit rarest fewest rows so is within low in' size fewer =
     let back : first + (bit - first) ≡ bit = omega arith in
     record {
       column = (in', ap (bit_of bits) back ∙ is.hit within);
+      most = λ none. absurd (cc);
       size = λ i found. let at : bit - first ≡ i = cc in subst (λ k. set_size (words_at sets k) ≡ rows) at (sym size);
       least = λ i j found j_in lt on.
           elim (cases_lt (first + j) from) [
@@ -318,16 +321,18 @@ rarest_taken bits first sets from to bit rarest fewest rows so is within low in'
           ];
     }
 
-column_stays : (bits : List ℕ) (first n from next : ℕ) (rarest : Option ℕ) → IsColumnBefore bits first n from rarest → is_some rarest ≡ true → IsColumnBefore bits first n next rarest
-column_stays bits first n from next None so some = absurd (true≢false (sym some))
-column_stays bits first n from next (Some i) so some = so
+column_stays : (bits : List ℕ) (first : ℕ) (sets : List (List ℕ)) (from next : ℕ) (rarest : Option ℕ) (fewest : ℕ) → IsRarestBefore bits first sets from rarest fewest → fewest < 2 ^ 64 - 1
+    → IsColumnBefore bits first (length sets) next rarest
+column_stays bits first sets from next None fewest so low = absurd (let most = so.most refl in omega arith)
+column_stays bits first sets from next (Some i) fewest so low = so.column
 
 -- the set of the next column that the bits have has no fewer rows
 pub rarest_stays : (bits : List ℕ) (first : ℕ) (sets : List (List ℕ)) (from to bit : ℕ) (rarest : Option ℕ) (fewest rows : ℕ) → IsRarestBefore bits first sets from rarest fewest
-    → IsFirstPlace (bit_of bits) from to bit → first ≤ bit → bit - first < length sets → rows ≡ set_size (words_at sets (bit - first)) → is_some rarest ≡ true → fewest ≤ rows
+    → IsFirstPlace (bit_of bits) from to bit → first ≤ bit → bit - first < length sets → rows ≡ set_size (words_at sets (bit - first)) → rows < 2 ^ 64 - 1 → fewest ≤ rows
     → IsRarestBefore bits first sets (bit + 1) rarest fewest
-rarest_stays bits first sets from to bit rarest fewest rows so is low in' size some le = record {
-  column = column_stays bits first (length sets) from (bit + 1) rarest so.column some;
+rarest_stays bits first sets from to bit rarest fewest rows so is low in' size small le = record {
+  column = column_stays bits first sets from (bit + 1) rarest fewest so (omega arith);
+  most = so.most;
   size = so.size;
   least = λ i j found j_in lt on.
       elim (cases_lt (first + j) from) [
@@ -342,6 +347,18 @@ rarest_stays bits first sets from to bit rarest fewest rows so is low in' size s
             ]
       ];
 }
+
+-- a set of few words has no more ones than they have bits
+pub set_small : (set : List ℕ) → length set < 2 ^ 32 → set_size set < 2 ^ 64 - 1
+set_small set few = omega (arith, count_by-le-length (λ b. b) (bits_of set), length-bits set)
+
+-- a set of one row at the most has no more than one of some
+pub alone_rarest : (sets : List (List ℕ)) (column i j rows : ℕ) → rows ≡ set_size (words_at sets column) → rows ≤ 1
+    → Some column ≡ Some i → 1 ≤ set_size (words_at sets j) → set_size (words_at sets i) ≤ set_size (words_at sets j)
+alone_rarest sets column i j rows size few found some =
+    let at : column ≡ i = cc in
+    let same : set_size (words_at sets i) ≡ rows = ap (λ k. set_size (words_at sets k)) (sym at) ∙ sym size in
+    rw same (omega arith)
 
 -- the next column that the bits have is past the last set
 pub column_past : (bits : List ℕ) (first n from to bit : ℕ) (rarest : Option ℕ) → IsColumnBefore bits first n from rarest → IsFirstPlace (bit_of bits) from to bit → n ≤ bit - first

@@ -1,5 +1,5 @@
 -- A walk over the columns of a row that stand outside a mask, to one that the fewest rows have.
-use Rattle.std.proofs.Common.{◌≡◌, ℕ, ◌+◌, ◌-◌, ◌<◌, ◌≤◌, true, false, cond, List, Some, None, length, get_or, take, sym, ap, ◌∙◌, arith, inl, inr, true≢false}
+use Rattle.std.proofs.Common.{◌≡◌, ℕ, ◌+◌, ◌-◌, ◌<◌, ◌≤◌, true, cond, List, Some, None, length, get_or, take, sym, ap, ◌∙◌, arith, inl, inr, true≢false}
 use Rattle.std.specs.List.{count_by}
 use Rattle.std.proofs.lemmas.Bool.{cases_lt}
 use Rattle.std.proofs.lemmas.List.Sums.{count_by_more_yes, sum_by-take-le}
@@ -10,7 +10,7 @@ abbrev pub count_of : Content → ℕ → ℕ
 count_of c k = rows_with c.rows (get_or c.columns k 0 - 1)
 
 -- a column that a row has is counted
-some_row : (rows : List SourcedRow) (r x : ℕ) → r < length rows → has (row_at rows r) x ≡ true → 1 ≤ rows_with rows x
+pub some_row : (rows : List SourcedRow) (r x : ℕ) → r < length rows → has (row_at rows r) x ≡ true → 1 ≤ rows_with rows x
 some_row rows r x r_in on =
     let p = λ (row : SourcedRow). has row x in
     let more : count_by p (take (r + 1) rows) ≡ count_by p (take r rows) + 1 = count_by_more_yes p rows r no_row r_in on in

@@ -21,6 +21,7 @@ use Rattle.gf2_matrix.proofs.Choosing.{rise_to}
 use Rattle.gf2_matrix.proofs.Rows.{column_bit, pivot_at}
 use Rattle.gf2_matrix.proofs.PivotSets.{column_found}
 use Rattle.gf2_matrix.proofs.Windows.{peer_listed}
+use Rattle.gf2_matrix.proofs.Rarest.{some_row}
 
 -- ---- counts
 count_cons : {X : Type 0} (p : X → Bool) (x : X) (xs : List X) → count_by p (x ∷ xs) ≡ cond (p x) 1 0 + count_by p xs
@@ -232,3 +233,17 @@ module _ (vars : ℕ) (given : List (List Literal)) (columns places : List ℕ) 
       let e_i : rows_with all (get_or columns (w.base + i) 0 - 1) ≡ set_size (words_at c.sets i) = ap (λ v. rows_with all (v - 1)) read_i ∙ sym size_i in
       let e_j : rows_with all (get_or columns k 0 - 1) ≡ set_size (words_at c.sets j) = ap (λ v. rows_with all (v - 1)) second.3 ∙ sym size_j in
       rw (e_i, e_j) le
+
+  -- some row is in the set of each
+  pub counted_of_row : (bits : List ℕ) → bits ≡ (get_or rows r d).bits → (i : ℕ) → i < length w.columns → bit_of bits (start w + i) ≡ true → 1 ≤ set_size (words_at c.sets i)
+  counted_of_row bits bits_are i i_in set_i =
+      let all : List SourcedRow = (content vars given columns windows rows).rows in
+      let found = column_found vars given columns places windows rows spares no_columns matrix r d r_in w here bits bits_are i i_in set_i in
+      let at = column_at (w.base + i) found.0 found.1 in
+      let at_is : at.0 ≡ i = let e = at.2 in omega arith in
+      let read : get_or columns (w.base + i) 0 ≡ get_or w.columns i 0 = at.3 ∙ ap (λ j. get_or w.columns j 0) at_is in
+      let on : has (row_at all r) (get_or w.columns i 0 - 1) ≡ true = ap (λ v. has (row_at all r) (v - 1)) (sym read) ∙ found.1 in
+      let size = rows_of_set vars given columns places windows rows spares no_columns matrix r d r_in w here c by i i_in on in
+      let inside : r < length all = let long = length-map rows (unpacked vars (length given) windows) in omega arith in
+      let one = some_row all r (get_or w.columns i 0 - 1) inside on in
+      rw size one

@@ -1,11 +1,11 @@
 //! Each part by columns: for each column the rows that have it, so that a pivot reads off the rows that it adds to.
-ghost use Rattle.std.specs.Prelude.{◌≡◌, ℕ, ◌*◌, ◌<◌, ◌≤◌, ◌&&◌, not, eqb, length, map, IfOk};
+ghost use Rattle.std.specs.Prelude.{◌≡◌, ℕ, ◌+◌, ◌*◌, ◌<◌, ◌≤◌, ◌&&◌, true, not, eqb, length, map, IfOk};
 ghost use Rattle.cx_base.specs.declared.literal.TheConstants.{MAX_VARIABLE};
 ghost use Rattle.gf2_rows.specs.Bits.{bit_of};
 ghost use Rattle.gf2_rows.specs.Tables.{words_at};
 ghost use Rattle.gf2_matrix.specs.Views.{words_for};
 ghost use Rattle.gf2_matrix.specs.Packed.{window, window_at};
-ghost use Rattle.gf2_matrix.specs.ByColumn.{AreTurned, AreSized, AreClear, IsColumnOf, IsRarestOf, HaveRows, IsByColumn, AreByColumn};
+ghost use Rattle.gf2_matrix.specs.ByColumn.{AreTurned, AreSized, AreClear, IsColumnOf, IsRarestOf, HaveRows, IsByColumn, AreByColumn, set_size};
 
 use crate::make::clear_words;
 use crate::packed::Part;
@@ -40,25 +40,29 @@ impl ByColumn {
         turn_sets(&mut self.sets, &self.chosen, bits, start);
     }
 
-    /// Of the columns that the bits have, of which the first has bit `start`, the first that the fewest rows have.
+    /// Of the columns that the bits have, of which the first has bit `start`, the first that the fewest rows have. Some
+    /// row has each of them, so the walk ends at one that no other row has.
     pub(crate) fn rarest(&self, bits: &WordRow<'_>, start: u64) -> Option<usize>
         requires few { length bits.now < 4294967296 }
         requires within { start ≤ 64 * length bits.now }
         requires room { length self.now.chosen.items < 4294967296 }
         requires sized { AreSized (length self.now.chosen.items) self.now.sets }
+        requires some { (j : ℕ) → j < length self.now.sets → bit_of bits.now (start + j) ≡ true → 1 ≤ set_size (words_at self.now.sets j) }
         ensures column { IsColumnOf bits.now start (length self.now.sets) result }
         ensures rarest { IsRarestOf bits.now start self.now.sets result }
     {
         let mut rarest = None;
-        let mut fewest = 0;
+        let mut fewest = u64::MAX;
         let mut from = start;
         while let Some(bit) = bits.next_one(from) {
             let column = (bit - start) as usize;
             if column >= self.sets.rows() {
                 return rarest;
             }
-            let rows = self.sets.row(column).ones();
-            if rarest.is_none() || rows < fewest {
+            if let Some(rows) = self.sets.row(column).fewer_ones(fewest) {
+                if rows <= 1 {
+                    return Some(column);
+                }
                 rarest = Some(column);
                 fewest = rows;
             }

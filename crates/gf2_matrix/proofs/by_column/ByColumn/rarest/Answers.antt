@@ -1,11 +1,11 @@
-use Rattle.std.proofs.Common.{◌≡◌, ℕ, ◌∙◌, ◌<◌, ◌≤◌, ◌+◌, ◌-◌, not, length, Option, Some, sym, ap, subst, arith, true≢false}
-use Rattle.std.specs.Option.{is_some}
+use Rattle.std.proofs.Common.{◌≡◌, ℕ, ◌∙◌, ◌<◌, ◌≤◌, ◌+◌, ◌-◌, length, Option, Some, sym, ap, subst, arith}
+use Rattle.gf2_rows.specs.Bits.{bit_of}
 use Rattle.gf2_rows.specs.Tables.{words_at}
 use Rattle.gf2_matrix.specs.ByColumn.{set_size}
 use Rattle.gf2_matrix.proofs.Steps.{later, later_still, nearer, up_to, bit_step_fits}
-use Rattle.gf2_matrix.proofs.ByColumns.{IsRarestBefore, rarest_none, rarest_taken, rarest_stays, column_past, rarest_past, column_all, rarest_all}
+use Rattle.gf2_matrix.proofs.ByColumns.{IsRarestBefore, alone_rarest, set_small, rarest_none, rarest_taken, rarest_stays, column_past, rarest_past, column_all, rarest_all}
 use Rattle.gf2_matrix.proofs.by_column.ByColumn.rarest.Goals as goal
-use Rattle.gf2_matrix.proofs.by_column.ByColumn.rarest.Goals.{then-is_none, then-is_none-via-then-is_none, then-is_none-via-else-is_none+then-rows-fewest, else-is_none+else-rows-fewest}
+use Rattle.gf2_matrix.proofs.by_column.ByColumn.rarest.Goals.{in-Some-fewer_ones+else-rows-le1, in_default-fewer_ones}
 
 pub next_one-requires-clause-few : goal.next_one-requires-clause-few
 next_one-requires-clause-few c = c.requires.few
@@ -19,8 +19,8 @@ overflow_sub-column c = later c.loop-bit.invariant.0 c.in-Some.ensures.1.low
 pub row-requires : goal.row-requires
 row-requires c = subst (λ n. c.in-Some.bit - c.args.start < n) c.rows.ensures c.if-column-rows.false
 
-pub ones-rows-requires : goal.ones-rows-requires
-ones-rows-requires c =
+pub fewer_ones-requires : goal.fewer_ones-requires
+fewer_ones-requires c =
     let in' = subst (λ n. c.in-Some.bit - c.args.start < n) c.rows.ensures c.if-column-rows.false in
     subst (λ n. n < 4294967296) (sym (ap length c.row.ensures ∙ c.requires.sized (c.in-Some.bit - c.args.start) in')) c.requires.room
 
@@ -36,30 +36,25 @@ loop-bit-preserved c =
     let first = c.args.start in
     let sets = c.args.self.now.sets in
     let bit = c.in-Some.bit in
-    let rows = c.ones-rows.result in
     let so = c.loop-bit.invariant.2 in
     let within = c.in-Some.ensures.0 in
     let is = c.in-Some.ensures.1 in
     let low = later c.loop-bit.invariant.0 is.low in
     let in' = subst (λ n. bit - first < n) c.rows.ensures c.if-column-rows.false in
-    let size : rows ≡ set_size (words_at sets (bit - first)) = c.ones-rows.ensures ∙ ap set_size c.row.ensures in
-    let none = c.is_none.ensures in (
+    let size : set_size c.row.result ≡ set_size (words_at sets (bit - first)) = ap set_size c.row.ensures in (
       later_still c.loop-bit.invariant.0 is.low,
       up_to within,
-      elim c.if-is_none.branch [
-        | then-is_none w ↦
-            let fewer : (i : ℕ) → c.loop-bit.rarest ≡ Some i → rows < c.loop-bit.fewest =
-            elim w.then-is_none.branch [
-              | then-is_none-via-then-is_none v ↦ λ i found. absurd (true≢false (sym (ap is_some found) ∙ none ∙ ap not v.if-is_none.true))
-              | then-is_none-via-else-is_none+then-rows-fewest v ↦ λ i found. v.if-rows-fewest.true
-            ] in
-            subst (λ (r : Option ℕ). IsRarestBefore bits first sets (bit + 1) r c.if-is_none.fewest) (sym w.rarest-is)
+      elim c.match-fewer_ones.branch [
+        | in-Some-fewer_ones+else-rows-le1 w ↦
+            let found = w.in-Some-fewer_ones.ensures in
+            subst (λ (r : Option ℕ). IsRarestBefore bits first sets (bit + 1) r c.match-fewer_ones.fewest) (sym w.rarest-is)
             (subst (λ n. IsRarestBefore bits first sets (bit + 1) (Some (bit - first)) n) (sym w.fewest-is)
-            (rarest_taken bits first sets c.loop-bit.from _ bit c.loop-bit.rarest c.loop-bit.fewest rows so is within low in' size fewer))
-        | else-is_none+else-rows-fewest w ↦
-            subst (λ (r : Option ℕ). IsRarestBefore bits first sets (bit + 1) r c.if-is_none.fewest) (sym w.rarest-is)
+            (rarest_taken bits first sets c.loop-bit.from _ bit c.loop-bit.rarest c.loop-bit.fewest w.in-Some-fewer_ones.rows so is within low in' (found.0 ∙ size) found.1))
+        | in_default-fewer_ones w ↦
+            let few = subst (λ n. n < 4294967296) (sym (ap length c.row.ensures ∙ c.requires.sized (bit - first) in')) c.requires.room in
+            subst (λ (r : Option ℕ). IsRarestBefore bits first sets (bit + 1) r c.match-fewer_ones.fewest) (sym w.rarest-is)
             (subst (λ n. IsRarestBefore bits first sets (bit + 1) c.loop-bit.rarest n) (sym w.fewest-is)
-            (rarest_stays bits first sets c.loop-bit.from _ bit c.loop-bit.rarest c.loop-bit.fewest rows so is low in' size (none ∙ ap not w.if-is_none.false) w.if-rows-fewest.false))
+            (rarest_stays bits first sets c.loop-bit.from _ bit c.loop-bit.rarest c.loop-bit.fewest (set_size c.row.result) so is low in' size (set_small c.row.result few) w.in_default-fewer_ones.ensures))
       ],
     )
 
@@ -77,6 +72,23 @@ returns-then-column-rows-clause-rarest c =
     let sets = c.args.self.now.sets in
     rarest_past c.args.bits.now c.args.start sets c.loop-bit.from _ c.in-Some.bit c.loop-bit.rarest c.loop-bit.fewest c.loop-bit.invariant.2 c.in-Some.ensures.1
     (subst (λ n. n ≤ c.in-Some.bit - c.args.start) c.rows.ensures c.if-column-rows.true)
+
+pub returns-then-rows-le1-clause-column : goal.returns-then-rows-le1-clause-column
+returns-then-rows-le1-clause-column c =
+    let first = c.args.start in
+    let bit = c.in-Some.bit in
+    let is = c.in-Some.ensures.1 in
+    let low = later c.loop-bit.invariant.0 is.low in
+    let in' = subst (λ n. bit - first < n) c.rows.ensures c.if-column-rows.false in
+    let back : first + (bit - first) ≡ bit = omega arith in
+    (in', ap (bit_of c.args.bits.now) back ∙ is.hit c.in-Some.ensures.0)
+
+pub returns-then-rows-le1-clause-rarest : goal.returns-then-rows-le1-clause-rarest
+returns-then-rows-le1-clause-rarest c =
+    let sets = c.args.self.now.sets in
+    let column = c.in-Some.bit - c.args.start in
+    λ i j found j_in on.
+    alone_rarest sets column i j c.in-Some-fewer_ones.rows (c.in-Some-fewer_ones.ensures.0 ∙ ap set_size c.row.ensures) c.if-rows-le1.true found (c.requires.some j j_in on)
 
 pub returns-clause-column : goal.returns-clause-column
 returns-clause-column c =

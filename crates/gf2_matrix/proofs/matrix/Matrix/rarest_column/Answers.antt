@@ -6,7 +6,7 @@ use Rattle.gf2_matrix.specs.Packed.{window, window_at}
 use Rattle.gf2_matrix.specs.ByColumn.{IsByColumn}
 use Rattle.gf2_matrix.proofs.Rows.{row_within, row_window}
 use Rattle.gf2_matrix.proofs.PivotSets.{row_by_column, numbers_few, columns_high, column_found, column_none}
-use Rattle.gf2_matrix.proofs.RowCounts.{rarest_of_row}
+use Rattle.gf2_matrix.proofs.RowCounts.{counted_of_row, rarest_of_row}
 use Rattle.gf2_matrix.proofs.Room.{row_there, part_there, by_column_there, words_few, start_within}
 use Rattle.gf2_matrix.proofs.matrix.Matrix.rarest_column.Goals as goal
 use Rattle.gf2_matrix.proofs.matrix.Matrix.rarest_column.Goals.{After-start}
@@ -42,6 +42,16 @@ pub rarest-requires-clause-sized : goal.rarest-requires-clause-sized
 rarest-requires-clause-sized c =
     let by = by_here (goal.at.rarest-requires-clause-sized c).After-start in
     λ i lt. by.sized i lt ∙ sym by.room
+
+pub rarest-requires-clause-some : goal.rarest-requires-clause-some
+rarest-requires-clause-some c =
+    let m = c.self.inside in
+    let s = (goal.at.rarest-requires-clause-some c).After-start in
+    let by = by_here s in
+    let count = by.count in
+    λ j j_in on.
+    counted_of_row m.vars m.given m.columns.items m.places.items (map window m.parts.items) m.rows m.spares.items m.no_columns.items c.self.invariant.matrix c.args.row c.row-words.result (row_in s) (window c.index-part.result.now) (here s)
+    c.index.result.now by c.row-words.result.bits (bits_are s) j (omega arith) (ap (λ f. bit_of c.row-words.result.bits (f + j)) (sym c.start.ensures) ∙ on)
 
 pub overflow_add-result : goal.overflow_add-result
 overflow_add-result c =
