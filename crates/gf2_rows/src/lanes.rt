@@ -10,7 +10,21 @@ use crate::plain::{self, open_bits};
 use std::simd::prelude::*;
 
 /// Adds `other` to `row`, position by position modulo two.
+#[inline]
 pub fn add_into(row: &mut [u64], other: &[u64])
+    requires { length row.old ≡ length other.now }
+    ensures { bits_of row.new ≡ zip2 differ (bits_of row.old) (bits_of other.now) }
+{
+    // Where there is no whole block, the plain loop does it all, and is short enough to be part of its caller.
+    if row.len() < 8 {
+        plain::add_into(row, other);
+    } else {
+        add_in_blocks(row, other);
+    }
+}
+
+/// Adds rows of any length.
+fn add_in_blocks(row: &mut [u64], other: &[u64])
     requires { length row.old ≡ length other.now }
     ensures { bits_of row.new ≡ zip2 differ (bits_of row.old) (bits_of other.now) }
 {
@@ -35,7 +49,19 @@ fn add_blocks(row: &mut [u64], other: &[u64])
 }
 
 /// The sum of the products of the two rows' bits, modulo two.
+#[inline]
 pub fn parity_and(a: &[u64], b: &[u64]) -> bool
+    requires { length a.now ≡ length b.now }
+    ensures { result ≡ odd_sum (zip2 ◌&&◌ (bits_of a.now) (bits_of b.now)) }
+{
+    if a.len() < 8 {
+        return plain::parity_and(a, b);
+    }
+    parity_in_blocks(a, b)
+}
+
+/// That sum for rows of any length.
+fn parity_in_blocks(a: &[u64], b: &[u64]) -> bool
     requires { length a.now ≡ length b.now }
     ensures { result ≡ odd_sum (zip2 ◌&&◌ (bits_of a.now) (bits_of b.now)) }
 {

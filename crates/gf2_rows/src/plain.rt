@@ -7,6 +7,7 @@ ghost use Rattle.cx_base.specs.Parity.{odd_sum};
 ghost use Rattle.gf2_rows.specs.Bits.{word_bit, bits_of, is_skipped, is_outside, IsCountBelow};
 
 /// Adds `other` to `row`, position by position modulo two.
+#[inline(always)]
 pub fn add_into(row: &mut [u64], other: &[u64])
     requires { length row.old ≡ length other.now }
     ensures { bits_of row.new ≡ zip2 differ (bits_of row.old) (bits_of other.now) }
@@ -17,6 +18,7 @@ pub fn add_into(row: &mut [u64], other: &[u64])
 }
 
 /// The sum of the products of the two rows' bits, modulo two.
+#[inline(always)]
 pub fn parity_and(a: &[u64], b: &[u64]) -> bool
     requires { length a.now ≡ length b.now }
     ensures { result ≡ odd_sum (zip2 ◌&&◌ (bits_of a.now) (bits_of b.now)) }

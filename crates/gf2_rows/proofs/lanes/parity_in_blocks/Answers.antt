@@ -1,6 +1,6 @@
 use Rattle.std.proofs.Common.{◌/◌, ◌*◌, ◌∙◌, length}
 use Rattle.gf2_rows.proofs.Words.{differ-beq, products_in_two}
-use Rattle.gf2_rows.proofs.lanes.parity_and.Goals as goal
+use Rattle.gf2_rows.proofs.lanes.parity_in_blocks.Goals as goal
 
 pub returns : goal.returns
 returns c =
