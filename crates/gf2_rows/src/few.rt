@@ -115,6 +115,7 @@ impl FewWords {
     }
 
     /// The bit at `k`.
+    #[inline(never)]
     pub(crate) fn bit(&self, k: u64) -> bool
         requires { k < 64 * length self.now }
         ensures { result ≡ bit_of self.now k }
@@ -123,6 +124,7 @@ impl FewWords {
     }
 
     /// Adds to the word at `place`, unless that would be one word too many.
+    #[inline(never)]
     pub(crate) fn add_word(&mut self, place: usize, word: u64) -> bool
         requires { place < length self.old }
         ensures added { result ≡ true → self.new ≡ slice_set self.old place (bit_xor (slice_index self.old place) word) }
@@ -146,6 +148,7 @@ impl FewWords {
     }
 
     /// Adds the words from `low` up to `high` in turn, and gives the place of the first that would be one word too many, or `high`.
+    #[inline(never)]
     pub(crate) fn add_words(&mut self, words: &[u64], low: usize, high: usize) -> usize
         requires same { length words.now ≡ length self.old }
         requires order { low ≤ high }
@@ -167,6 +170,7 @@ impl FewWords {
     }
 
     /// The number of ones.
+    #[inline(never)]
     pub(crate) fn ones(&self) -> u64
         ensures { result ≡ count_by (λ b. b) (bits_of self.now) }
     {
@@ -174,6 +178,7 @@ impl FewWords {
     }
 
     /// The number of ones if it is below `limit`.
+    #[inline(never)]
     pub(crate) fn fewer_ones(&self, limit: u64) -> Option<u64>
         ensures { IsCountBelow limit self.now result }
     {
@@ -181,6 +186,7 @@ impl FewWords {
     }
 
     /// The least position from `from` on that is set.
+    #[inline(never)]
     pub(crate) fn next_one(&self, from: u64) -> Option<u64>
         ensures { FirstFrom (bit_of self.now) from (64 * length self.now) result }
     {
@@ -193,6 +199,7 @@ impl FewWords {
     }
 
     /// The least position from `from` on that is set, not set in `mask` and not `skip`.
+    #[inline(never)]
     pub(crate) fn first_open(&self, mask: &[u64], skip: Option<u64>, from: u64) -> Option<u64>
         requires { length self.now ≡ length mask.now }
         ensures { FirstFrom (is_outside self.now mask.now skip) from (64 * length self.now) result }
@@ -207,6 +214,7 @@ impl FewWords {
     }
 
     /// The sum of the products with the other's bits, modulo two.
+    #[inline(never)]
     pub(crate) fn parity_and(&self, other: &[u64]) -> bool
         requires { length self.now ≡ length other.now }
         ensures { result ≡ odd_sum (zip2 ◌&&◌ (bits_of self.now) (bits_of other.now)) }
@@ -219,6 +227,7 @@ impl FewWords {
     }
 
     /// Writes all the words.
+    #[inline(never)]
     pub(crate) fn copy_to(&self, into: &mut [u64])
         requires { length into.old ≡ length self.now }
         ensures { into.new ≡ self.now }

@@ -17,7 +17,7 @@ impl TableHead {
     ghost use Rattle.gf2_rows.specs.Heads.{row_in};
 
     /// Adds to the word at `place`, unless the row is laid out whole or has to be.
-    #[inline]
+    #[inline(always)]
     pub(crate) fn add_word(&mut self, place: usize, word: u64) -> bool
         requires { place < length self.old.few }
         ensures start { self.new.start ≡ self.old.start }
@@ -33,7 +33,7 @@ impl TableHead {
 
     /// Adds the words from `low` up to `high` in turn until the row is laid out whole or has to be, and gives the place of the
     /// first that is left, or `high`.
-    #[inline]
+    #[inline(always)]
     pub(crate) fn add_words(&mut self, words: &[u64], low: usize, high: usize) -> usize
         requires same { length words.now ≡ length self.old.few }
         requires order { low ≤ high }

@@ -57,7 +57,7 @@ impl WordTable {
     }
 
     /// A row.
-    #[inline]
+    #[inline(always)]
     pub fn row(&self, row: usize) -> WordRow<'_>
         requires { row < length self.now }
         ensures { result ≡ words_at self.now row }
@@ -70,7 +70,7 @@ impl WordTable {
     }
 
     /// Adds to one word of a row.
-    #[inline]
+    #[inline(always)]
     fn add_word(&mut self, row: usize, place: usize, word: u64)
         requires row_in { row < length self.old }
         requires place_in { place < length (words_at self.old row) }
@@ -120,7 +120,7 @@ impl WordTable {
     }
 
     /// Adds words that are zero but those from `low` up to `high`. Its time is in these.
-    #[inline]
+    #[inline(always)]
     pub fn add_span(&mut self, row: usize, words: &[u64], low: usize, high: usize)
         requires row_in { row < length self.old }
         requires same { length words.now ≡ length (words_at self.old row) }

@@ -55,7 +55,7 @@ impl<'a> WordRow<'a> {
     }
 
     /// How many words it has.
-    #[inline]
+    #[inline(always)]
     pub fn len(&self) -> usize
         ensures { result ≡ length self.now }
     {
@@ -66,7 +66,7 @@ impl<'a> WordRow<'a> {
     }
 
     /// Whether it has no word.
-    #[inline]
+    #[inline(always)]
     pub fn is_empty(&self) -> bool
         ensures { IsTrue result ↔ (length self.now ≡ 0) }
     {
@@ -74,7 +74,7 @@ impl<'a> WordRow<'a> {
     }
 
     /// The bit at `k`.
-    #[inline]
+    #[inline(always)]
     pub fn bit(&self, k: u64) -> bool
         requires { k < 64 * length self.now }
         ensures { result ≡ bit_of self.now k }
@@ -86,7 +86,7 @@ impl<'a> WordRow<'a> {
     }
 
     /// The number of ones, in at most 4,294,967,295 words.
-    #[inline]
+    #[inline(always)]
     pub fn ones(&self) -> u64
         requires { length self.now < 2 ^ 32 }
         ensures { result ≡ count_by (λ b. b) (bits_of self.now) }
@@ -110,7 +110,7 @@ impl<'a> WordRow<'a> {
     }
 
     /// The least position from `from` on that is set, in at most 4,294,967,295 words.
-    #[inline]
+    #[inline(always)]
     pub fn next_one(&self, from: u64) -> Option<u64>
         requires few { length self.now < 2 ^ 32 }
         requires within { from ≤ 64 * length self.now }
@@ -125,7 +125,7 @@ impl<'a> WordRow<'a> {
     }
 
     /// The least position from `from` on that is set in the row and not set in `mask`, in at most 4,294,967,295 words.
-    #[inline]
+    #[inline(always)]
     pub fn next_outside(&self, mask: &[u64], from: u64) -> Option<u64>
         requires same { length self.now ≡ length mask.now }
         requires few { length self.now < 2 ^ 32 }
@@ -141,7 +141,7 @@ impl<'a> WordRow<'a> {
     }
 
     /// The least position that is set in the row, not set in `mask` and not `skip`, in at most 4,294,967,295 words.
-    #[inline]
+    #[inline(always)]
     pub fn first_outside(&self, mask: &[u64], skip: Option<u64>) -> Option<u64>
         requires same { length self.now ≡ length mask.now }
         requires few { length self.now < 2 ^ 32 }
@@ -157,7 +157,7 @@ impl<'a> WordRow<'a> {
 
     /// A position that is set in the row, not set in `mask` and not `skip`, in at most 4,294,967,295 words. In a whole row it
     /// is sought from the block of the word `near` on, and then among the blocks before.
-    #[inline]
+    #[inline(always)]
     pub fn outside_near(&self, mask: &[u64], skip: Option<u64>, near: usize) -> Option<u64>
         requires same { length self.now ≡ length mask.now }
         requires few { length self.now < 2 ^ 32 }
@@ -172,7 +172,7 @@ impl<'a> WordRow<'a> {
     }
 
     /// The sum of the products with the other row's bits, modulo two.
-    #[inline]
+    #[inline(always)]
     pub fn parity_and(&self, other: &[u64]) -> bool
         requires { length self.now ≡ length other.now }
         ensures { result ≡ odd_sum (zip2 ◌&&◌ (bits_of self.now) (bits_of other.now)) }
@@ -184,7 +184,7 @@ impl<'a> WordRow<'a> {
     }
 
     /// Writes its words.
-    #[inline]
+    #[inline(always)]
     pub fn copy_to(&self, into: &mut [u64])
         requires { length into.old ≡ length self.now }
         ensures { into.new ≡ self.now }
