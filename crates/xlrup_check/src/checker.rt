@@ -1,5 +1,7 @@
 //! The judgement of a proof, step by step.
 ghost use Rattle.std.specs.Prelude.{◌≡◌, ◌<◌, ◌≤◌, ◌^◌, ℕ, false, None, [], List, Ok, IfOk, IfErr, OnOk};
+ghost use Rattle.cx_base.specs.Assumptions.{clashes};
+ghost use Rattle.cx_semantics.specs.Tables.{first_tables};
 ghost use Rattle.xlrup_check.specs.Verdicts.{IsJudgedBy, IsSound, HasCause, IsTooLongBy, ReadsStand, LeavesSource, CanGoOn, KeepsLimits, RecordsAll, Tells, Kept, Goes, text_refused, what_follows_of};
 ghost use Rattle.xlrup_check.specs.declared.verdict.Fault.TheVariants.{Memory};
 
@@ -72,9 +74,31 @@ pub fn check_and_record<S: StepSource<Step = ProofStep>, R: Recorder>(
         marks: JudgeMarks::new(alloc),
         spare: SpareLists::new(alloc),
     };
+    let done = take_all(&mut checking, formula, source, recorder);
+    // By a call, since in place each vector in it is a step of the proof.
+    drop(checking);
+    done
+}
+
+/// Takes and judges one step after another, from the first on.
+// It is lent what `check_and_record` owns, so that its exits have nothing to drop.
+fn take_all<S: StepSource<Step = ProofStep>, R: Recorder>(
+    checking: &mut Checking<'_>,
+    formula: &Formula,
+    source: &mut S,
+    recorder: &mut R,
+) -> Result<Verdict, Fault>
+    requires fresh { S.is_spent source.old ≡ false }
+    requires open { clashes formula.now.constraints ≡ false }
+    requires first { checking.old.live ≡ first_tables formula.now }
+    ensures judged { (text : List ℕ) → S.may_read source.new text → IfOk result (IsJudgedBy (λ a. S.leaves a text) formula.now source.old) }
+    ensures sound { IfOk result (IsSound formula.now) }
+    ensures recorded { R.told recorder.old [] → IfOk result (RecordsAll (S.may_read source.new) S.leaves (R.told recorder.new) formula.now source.old) }
+    ensures source { LeavesSource S.may_read S.passes_limit S.stuck S.faults S.keeps source.old result source.new }
+{
     let mut steps = 0;
     loop {
-        match take_next(&mut checking, formula, source, recorder, steps) {
+        match take_next(checking, formula, source, recorder, steps) {
             Ok(None) => steps += 1,
             Ok(Some(verdict)) => return Ok(verdict),
             Err(fault) => return Err(fault),

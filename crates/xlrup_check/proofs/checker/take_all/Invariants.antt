@@ -1,6 +1,6 @@
 use Rattle.std.proofs.Common.{ℕ, List, ◌≡◌, ◌≤◌, ◌-◌, ◌^◌, false}
 use Rattle.xlrup_check.specs.Verdicts.{Kept}
-use Rattle.xlrup_check.proofs.checker.check_and_record.Given as goal
+use Rattle.xlrup_check.proofs.checker.take_all.Given as goal
 
 abbrev pub invariant-loop-steps : goal.invariant-loop-steps
 invariant-loop-steps g l = record {
