@@ -10,17 +10,15 @@ ghost use Rattle.fratx_elab.specs.Writing.{WritesDown};
 
 use crate::elaboration::Elaboration;
 use crate::ends::ElabEnds;
-use crate::naming::Names;
 use crate::one_step::ends_log;
 use crate::originals::{Originals, count_kinds};
 use crate::outcome::{Elab, ElabFault};
 use crate::state::{State, keep_memory};
 use cx_base::{Formula, LogStep, ProofStep};
 use cx_semantics::Cause;
-use proof_rules::{JudgeMarks, JudgeRefusal};
-use rup_finder::IndexedClauses;
+use proof_rules::JudgeRefusal;
 use std::alloc::Global;
-use step_text::{SinkFault, SpareLists, TextRefusal};
+use step_text::{SinkFault, TextRefusal};
 
 /// Hands a step to the sink, if there is one.
 fn write<E: ElabEnds>(ends: &mut E, written: &Option<ProofStep>) -> Result<(), SinkFault>
@@ -162,18 +160,16 @@ pub fn elaborate<E: ElabEnds>(
     }
     let counts = count_kinds(formula);
     let originals = Originals::of(alloc, formula)?;
-    let mut state = State {
-        live: IndexedClauses::make(alloc, formula),
-        clauses: Names::new(alloc, counts.clauses),
-        parities: Names::new(alloc, counts.parities),
-        marks: JudgeMarks::new(alloc),
-        spare: SpareLists::new(alloc),
-    };
+    let mut state = State::new(alloc, formula, counts);
     let elaboration = Elaboration {
         alloc,
         formula,
         counts,
         originals,
     };
-    elaboration.take_all(&mut state, ends)
+    let done = elaboration.take_all(&mut state, ends);
+    // By calls, since in place each vector in them is a step of the proof.
+    drop(state);
+    drop(elaboration);
+    done
 }

@@ -5,18 +5,18 @@ use Rattle.fratx_elab.proofs.Leaving.{judged_at_once, no_memory_at_once}
 use Rattle.fratx_elab.proofs.Turns.{kept_first, nothing_gained, clash_is_done}
 use Rattle.fratx_elab.proofs.walk.elaborate.Goals as goal
 
-pub take_all-requires-clause-room : goal.take_all-requires-clause-room
-take_all-requires-clause-room g c =
+pub take_all-done-requires-clause-room : goal.take_all-done-requires-clause-room
+take_all-done-requires-clause-room g c =
     record {
-      clauses = omega (arith, ap (λ (n : Naming). n.last) c.new.ensures, c.count_kinds-counts.ensures.kinds, c.count_kinds-counts.ensures.few);
-      parities = omega (arith, ap (λ (n : Naming). n.last) c.new-2.ensures, c.count_kinds-counts.ensures.kinds, c.count_kinds-counts.ensures.few);
+      clauses = omega (arith, ap (λ (n : Naming). n.last) c.new-state.ensures.clauses, c.count_kinds-counts.ensures.kinds, c.count_kinds-counts.ensures.few);
+      parities = omega (arith, ap (λ (n : Naming). n.last) c.new-state.ensures.parities, c.count_kinds-counts.ensures.kinds, c.count_kinds-counts.ensures.few);
     }
 
-pub take_all-requires-clause-kept : goal.take_all-requires-clause-kept
-take_all-requires-clause-kept g c = λ text may.
-    let clauses = c.new.ensures ∙ ap first_naming c.count_kinds-counts.ensures.counts.clauses in
-    let parities = c.new-2.ensures ∙ ap first_naming c.count_kinds-counts.ensures.counts.parities in
-    kept_first _ _ _ c.args.formula.now c.args.ends.now _ (sym c.clash.ensures.some ∙ sym c.is_some.ensures ∙ c.if-is_some.false) c.make.ensures clauses parities
+pub take_all-done-requires-clause-kept : goal.take_all-done-requires-clause-kept
+take_all-done-requires-clause-kept g c = λ text may.
+    let clauses = c.new-state.ensures.clauses ∙ ap first_naming c.count_kinds-counts.ensures.counts.clauses in
+    let parities = c.new-state.ensures.parities ∙ ap first_naming c.count_kinds-counts.ensures.counts.parities in
+    kept_first _ _ _ c.args.formula.now c.args.ends.now _ (sym c.clash.ensures.some ∙ sym c.is_some.ensures ∙ c.if-is_some.false) c.new-state.ensures.live clauses parities
 
 pub returns-in_err-originals-clause-cut_off : goal.returns-in_err-originals-clause-cut_off
 returns-in_err-originals-clause-cut_off g c =
