@@ -17,7 +17,7 @@ use Rattle.cx_base.specs.Literals.{Literal}
 use Rattle.cx_semantics.specs.Chain.{IsChain}
 use Rattle.cx_semantics.specs.Tables.{Table, get, named, is_live}
 use Rattle.cx_semantics.specs.LogRules.{AreLive, moving}
-use Rattle.rup_engine.specs.Finding.{IsAtRest, Holds, Answers}
+use Rattle.rup_engine.specs.Finding.{Answers}
 use Rattle.rup_engine.specs.declared.answer.Answer.{Answer}
 use Rattle.rup_engine.specs.declared.answer.Answer.TheVariants.{Chain}
 use Rattle.rup_engine.specs.declared.engine.Engine.{Engine}
@@ -62,8 +62,8 @@ by_part part table (Some e) inside is_ready = (is_ready.0, record { part = part;
 pub some_part : (table : Table) (e : Option Engine) → IsRecent table e → (part : Table) × IsReady part e
 some_part table e h = let w = as_part table e h in (w.0, w.2)
 
-pub recent_at_first : (table : Table) (e : Engine) → IsAtRest e → ((t : Table) → t ≡ map.empty → Holds t e) → IsRecent table (Some e)
-recent_at_first table e rest holds = (rest, record { part = map.empty; inside = nothing_inside table; holds = holds map.empty refl })
+pub recent_at_first : (table : Table) (e : Option Engine) → IsReady map.empty e → IsRecent table e
+recent_at_first table e is_ready = by_part map.empty table e (nothing_inside table) is_ready
 
 pub recent_put : (table : Table) (id : ℕ) (lits : List Literal) (old new : Option Engine) → ((part : Table) → IsReady part old → IsReady (map.insert part id lits) new) → IsRecent table old → IsRecent (map.insert table id lits) new
 recent_put table id lits old new step h =

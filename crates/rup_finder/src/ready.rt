@@ -1,9 +1,10 @@
 //! An engine that is ready for a search.
-ghost use Rattle.std.specs.Prelude.{◌≡◌, ◌≤◌, ◌+◌, IfOk, MatchOption, None, true, false};
+ghost use Rattle.std.specs.Prelude.{◌≡◌, ◌≤◌, ◌+◌, IfOk, OnOk, OnErr, MatchOption, Some, None, true, false, is_ok};
 ghost use Rattle.std.specs.FinMap as map;
 ghost use Rattle.cx_semantics.specs.Moves.{moved};
 ghost use Rattle.cx_semantics.specs.Tables.{Table, get};
 ghost use Rattle.cx_base.specs.declared.literal.TheConstants.{MAX_VARIABLE};
+ghost use Rattle.proof_rules.specs.Kinds.{ListsLive};
 ghost use Rattle.rup_engine.specs.Moving.{AreApart};
 ghost use Rattle.rup_engine.specs.Standing.{IsWithin};
 ghost use Rattle.rup_engine.specs.Finding.{IsAtRest, Holds, Answers};
@@ -52,13 +53,39 @@ fn roomy(top: u32) -> Option<u32>
 }
 
 /// Lets the engine go, unless it is to stay.
-pub fn keep_if(stays: bool, engine: &mut Option<Engine>)
+// Of any type: an engine has many parts, of which the proof is to know nothing here.
+pub fn keep_if<T: Drop>(stays: bool, engine: &mut Option<T>)
     ensures stays { stays ≡ true → engine.new ≡ engine.old }
     ensures goes { stays ≡ false → engine.new ≡ None }
 {
     if !stays {
         *engine = None;
     }
+}
+
+/// An engine that was made comes in the place of what is there. Without memory nothing changes.
+// Of any type for the same reason.
+fn put_made<T: Drop>(engine: &mut Option<T>, made: Result<T, AllocError>) -> Result<(), AllocError>
+    ensures made { IfOk made (λ made. engine.new ≡ Some made) }
+    ensures same { is_ok result ≡ is_ok made }
+    ensures err { OnErr result (engine.new ≡ engine.old) }
+{
+    match made {
+        Ok(made) => {
+            *engine = Some(made);
+            Ok(())
+        }
+        Err(AllocError) => Err(AllocError),
+    }
+}
+
+/// An engine that holds no clause comes in the place of what is there. Without memory nothing changes.
+pub fn start(engine: &mut Option<Engine>, alloc: Global, limit: u32) -> Result<(), AllocError>
+    requires { limit + 2 ≤ MAX_VARIABLE }
+    ensures ok { OnOk result (IsReady map.empty engine.new) }
+    ensures err { OnErr result (engine.new ≡ engine.old) }
+{
+    put_made(engine, Engine::make(alloc, limit))
 }
 
 /// The clause of this id comes in the place of what was under it, unless it has too large a variable; tells whether it is in.
@@ -119,26 +146,47 @@ pub fn put_live(engine: &mut Option<Engine>, live: &Live, id: u64) -> Result<(),
     }
 }
 
-/// An engine with all live clauses; none where one has too large a variable.
-fn build(alloc: Global, live: &Live, limit: u32) -> Result<Option<Engine>, AllocError>
-    requires { limit + 2 ≤ MAX_VARIABLE }
-    ensures { IfOk result (IsReady live.now.clauses) }
+/// All live clauses, which the ids list, come into an engine that holds none. Where one has too large a variable, the engine goes.
+fn put_all_live(engine: &mut Option<Engine>, live: &Live, ids: &[u64]) -> Result<(), AllocError>
+    requires empty { IsReady map.empty engine.old }
+    requires all { ListsLive live.now.clauses ids.now }
+    ensures { OnOk result (IsReady live.now.clauses engine.new) }
 {
-    let ids = live.clause_ids(alloc)?.into_vec();
-    let mut engine = Some(Engine::make(alloc, limit)?);
-    for id in &ids {
-        put_live(&mut engine, live, *id)?;
+    for id in ids {
+        put_live(engine, live, *id)?;
     }
-    Ok(engine)
+    Ok(())
 }
 
-/// An engine with all live clauses and room for the target's variables; none where variables are too large.
-fn anew(alloc: Global, live: &Live, target: &[Lit]) -> Result<Option<Engine>, AllocError>
-    ensures { IfOk result (IsReady live.now.clauses) }
+/// Makes an engine with all live clauses; none where one has too large a variable.
+fn build(
+    engine: &mut Option<Engine>,
+    alloc: Global,
+    live: &Live,
+    limit: u32,
+) -> Result<(), AllocError>
+    requires { limit + 2 ≤ MAX_VARIABLE }
+    ensures { OnOk result (IsReady live.now.clauses engine.new) }
+{
+    start(engine, alloc, limit)?;
+    let ids = live.clause_ids(alloc)?;
+    put_all_live(engine, live, ids.as_slice())
+}
+
+/// Makes an engine with all live clauses and room for the target's variables, where there is none; none where variables are too
+/// large.
+fn anew(
+    engine: &mut Option<Engine>,
+    alloc: Global,
+    live: &Live,
+    target: &[Lit],
+) -> Result<(), AllocError>
+    requires { engine.old ≡ None }
+    ensures { OnOk result (IsReady live.now.clauses engine.new) }
 {
     match roomy(top_of(alloc, live, target)?) {
-        Some(limit) => build(alloc, live, limit),
-        None => Ok(None),
+        Some(limit) => build(engine, alloc, live, limit),
+        None => Ok(()),
     }
 }
 
@@ -164,11 +212,13 @@ pub fn ready(
     ensures { IsReadyFor live.now.clauses target.now engine.new }
 {
     keep_within(engine, target);
-    if engine.is_none() {
-        *engine = anew(alloc, live, target)?;
-        keep_within(engine, target);
+    if engine.is_some() {
+        return Ok(());
     }
-    Ok(())
+    let made = anew(engine, alloc, live, target);
+    keep_if(made.is_ok(), engine);
+    keep_within(engine, target);
+    made
 }
 
 /// The answer of the engine; nothing is told where there is none. Without memory the engine goes.

@@ -6,7 +6,7 @@ ghost use Rattle.cx_semantics.specs.LogRules.{AreLive};
 ghost use Rattle.cx_semantics.specs.Tables.{Table, named};
 ghost use Rattle.rup_finder.specs.Recent.{IsRecent};
 
-use crate::ready::{ask, keep_if, keep_within, put_live};
+use crate::ready::{ask, keep_if, keep_within, put_live, start};
 use cx_base::{IdList, Lit};
 use proof_rules::{Kind, Live};
 use rup_engine::{Answer, Engine};
@@ -83,21 +83,6 @@ fn put_all_used(engine: &mut Option<Engine>, live: &Live, ids: &[u64]) -> Result
         put_used(engine, live, *id)?;
     }
     Ok(())
-}
-
-/// An engine over the live clauses of these ids.
-fn gathered(
-    alloc: Global,
-    live: &Live,
-    limit: u32,
-    ids: &[u64],
-) -> Result<Option<Engine>, AllocError>
-    requires { limit + 2 ≤ MAX_VARIABLE }
-    ensures { IfOk result (IsRecent live.now.clauses) }
-{
-    let mut engine = Some(Engine::make(alloc, limit)?);
-    put_all_used(&mut engine, live, ids)?;
-    Ok(engine)
 }
 
 impl Recent {
@@ -179,7 +164,8 @@ impl Recent {
         ensures { IsRecent live.now.clauses self.new.engine }
     {
         thin(live, &mut self.used);
-        self.engine = gathered(alloc, live, limit, &self.used)?;
+        start(&mut self.engine, alloc, limit)?;
+        put_all_used(&mut self.engine, live, &self.used)?;
         self.start_over(limit);
         Ok(())
     }
