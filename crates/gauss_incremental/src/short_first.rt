@@ -65,15 +65,21 @@ impl ParityEngine for ShortFirst {
 
     fn make(alloc: Global, vars: u32, parities: &ParityList) -> Result<Self, AllocError> {
         let engine = Incremental::make(alloc, vars, parities)?;
-        let (shorts, looks, named) = shorts_beside(alloc, vars, parities, &engine)?;
-        Ok(ShortFirst {
-            alloc,
-            engine,
-            shorts,
-            looks,
-            named,
-            told: Told::ByMatrix,
-        })
+        match shorts_beside(alloc, vars, parities, &engine) {
+            Ok((shorts, looks, named)) => Ok(ShortFirst {
+                alloc,
+                engine,
+                shorts,
+                looks,
+                named,
+                told: Told::ByMatrix,
+            }),
+            Err(AllocError) => {
+                // By a call, since in place each vector in it is a step of the proof.
+                drop(engine);
+                Err(AllocError)
+            }
+        }
     }
 
     fn assign(&mut self, var: Var, value: bool) {

@@ -5,12 +5,12 @@ use Rattle.gauss_incremental.proofs.short_first.ShortFirstParityEngine.make.Goal
 pub invariant_of-result : goal.invariant_of-result
 invariant_of-result c =
     let e = c.in_ok-engine in
-    let beside = c.in_ok-shorts in
+    let beside = c.in-Ok in
     let made = beside.ensures in
     shorts_fresh e.engine.state c.args.vars e.ensures.0 c.args.parities.now beside.shorts.items beside.named e.ensures.1 made.each made.few made.unnamed
 
-pub returns : goal.returns
-returns c =
+pub returns-in-Ok : goal.returns-in-Ok
+returns-in-Ok c =
     let e = c.in_ok-engine in
-    let beside = c.in_ok-shorts in
+    let beside = c.in-Ok in
     (e.ensures.0 + length beside.shorts.items, state_fresh e.engine.state c.args.vars e.ensures.0 c.args.parities.now beside.shorts.items beside.named e.ensures.1 beside.ensures.unnamed)
