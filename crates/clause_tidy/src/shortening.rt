@@ -73,6 +73,40 @@ fn added(alloc: Global, id: u64, rest: &[Lit], hints: IntList) -> Result<LogStep
     Ok(chained(id, lits, hints))
 }
 
+/// The step that adds these literals under an id, by the clause of the spare one.
+fn copied_step(alloc: Global, spare: u64, id: u64, rest: &[Lit]) -> Result<LogStep, AllocError>
+    requires spare { IsStepId spare }
+    requires id { IsStepId id }
+    ensures copied { IfOk result (IsStep (ClauseWithHints id (integers_of rest.now) (pos spare ∷ []))) }
+    ensures spells { IfOk result (λ _. literals (integers_of rest.now) ≡ rest.now) }
+{
+    let hints = hint(alloc, spare)?;
+    added(alloc, id, rest, hints)
+}
+
+/// Four values in order.
+// Of any type: a step has many parts, of which the proof is to know nothing here.
+fn four<T: Drop>(
+    alloc: Global,
+    first: T,
+    second: T,
+    third: T,
+    fourth: T,
+) -> Result<Vec<T>, AllocError>
+    ensures { IfOk result (λ all. all.items ≡ first ∷ second ∷ third ∷ fourth ∷ []) }
+{
+    match Vec::with_capacity(alloc, 4) {
+        Ok(mut all) => {
+            all.push_reserved(first);
+            all.push_reserved(second);
+            all.push_reserved(third);
+            all.push_reserved(fourth);
+            Ok(all)
+        }
+        Err(AllocError) => Err(AllocError),
+    }
+}
+
 /// The four steps that tell a shorter clause: the one of the first id strengthens the one of the second.
 pub(crate) fn shortening_steps(
     alloc: Global,
@@ -88,12 +122,19 @@ pub(crate) fn shortening_steps(
     ensures texts { IfOk result (λ s. AllByRecursion IsTellable s.items) }
     ensures spells { IfOk result (λ _. literals (integers_of rest.now) ≡ rest.now) }
 {
-    let mut steps = Vec::new(alloc);
-    steps.push(added(alloc, spare, rest, hints(alloc, by, id)?)?)?;
-    steps.push(deletion(alloc, id))?;
-    steps.push(added(alloc, id, rest, hint(alloc, spare)?)?)?;
-    steps.push(deletion(alloc, spare))?;
-    Ok(steps)
+    let strengthened = ending_step(alloc, spare, by, id, rest)?;
+    match copied_step(alloc, spare, id, rest) {
+        Ok(copied) => {
+            let old_goes = deletion(alloc, id);
+            let spare_goes = deletion(alloc, spare);
+            four(alloc, strengthened, old_goes, copied, spare_goes)
+        }
+        Err(AllocError) => {
+            // By a call, since in place each list that a step may have is a step of the proof.
+            drop(strengthened);
+            Err(AllocError)
+        }
+    }
 }
 
 /// The step that ends the log: these literals are left of the clause of the second id.

@@ -26,7 +26,10 @@ fn tell<L: Sink<Item = LogEvent>>(log: &mut L, event: LogEvent) -> Result<(), Si
     requires going { L.has_failed log.old ≡ false }
     ensures { TellsIn L.Sink (event ∷ []) log.old result log.new }
 {
-    put_event(log, &event)
+    let told = put_event(log, &event);
+    // By a call, since in place each list that an event may have is a step of the proof.
+    drop(event);
+    told
 }
 
 /// Tells one step.
