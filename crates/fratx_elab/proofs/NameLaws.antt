@@ -1,10 +1,11 @@
--- Ids that stand for themselves.
-use Rattle.std.proofs.Common.{◌≡◌, refl, sym, ap, ◌∙◌, subst, ℕ, ℤ, pos, List, [], ◌∷◌, map, filter_map, negsuc, Option, Some, None, is_some, IsTrue, false, true≢false, nat_abs, arith}
+-- Ids that stand for themselves, and ids that are renamed one by one.
+use Rattle.std.proofs.Common.{◌≡◌, refl, sym, ap, ◌∙◌, subst, ℕ, ℤ, pos, List, [], ◌∷◌, map, filter_map, negsuc, Option, Some, None, is_some, IsTrue, false, true≢false, nat_abs, arith, ◌≢◌, ◌≤◌, ◌++◌, ◌+◌, ◌<◌, length, get_or, drop, drop-cons, add-one, append_assoc}
 use Rattle.std.specs.List.{AllByRecursion, cons_option, list_any}
 use Rattle.cx_base.specs.Integers.{is_negative, sizes}
 use Rattle.cx_base.specs.Numbers.{AreStepIntegers}
 use Rattle.cx_semantics.specs.LogRules.{AreLive}
 use Rattle.cx_semantics.specs.Tables.{Table, is_live}
+use Rattle.fratx_elab.specs.declared.naming.TheConstants.{MAX_ID}
 use Rattle.fratx_elab.specs.Names.{Naming, stands_for, hints_for, AreNamed, StandForThemselves, StandForProofIds, IsProofId}
 
 -- what stands for an id that is named is the id
@@ -40,6 +41,28 @@ plain (negsuc n ∷ zs) h = absurd (true≢false h)
 
 pub hints_stay : (naming : Naming) (hints : List ℤ) → StandForThemselves naming → AreNamed naming (sizes hints) → list_any is_negative hints ≡ false → hints ≡ hints_for naming (sizes hints)
 hints_stay naming hints h named n = plain hints n ∙ hints_themselves naming (sizes hints) h named
+
+-- the hints for the ids from a place on
+named_here : (naming : Naming) (ids : List ℕ) (k : ℕ) → k < length ids → hints_for naming (drop k ids) ≡ map pos (cons_option (stands_for naming (get_or ids k 0)) (filter_map (stands_for naming) (drop (k + 1) ids)))
+named_here naming ids k less = let e : drop k ids ≡ get_or ids k 0 ∷ drop (k + 1) ids = rw (add-one, drop-cons ids k 0) in ap (hints_for naming) e
+
+-- one more id is renamed
+pub renamed_next : (naming : Naming) (ids : List ℕ) (k p : ℕ) (hints whole : List ℤ) → k < length ids → Some p ≡ stands_for naming (get_or ids k 0) → hints ++ hints_for naming (drop k ids) ≡ whole
+    → (hints ++ pos p ∷ []) ++ hints_for naming (drop (k + 1) ids) ≡ whole
+renamed_next naming ids k p hints whole less is before =
+    append_assoc hints (pos p ∷ []) (hints_for naming (drop (k + 1) ids))
+    ∙ ap (λ zs. hints ++ zs) (ap (λ o. map pos (cons_option o (filter_map (stands_for naming) (drop (k + 1) ids)))) is ∙ sym (named_here naming ids k less)) ∙ before
+
+-- an id for which nothing stands is left out
+pub left_out_next : (naming : Naming) (ids : List ℕ) (k : ℕ) (hints whole : List ℤ) → k < length ids → None ≡ stands_for naming (get_or ids k 0) → hints ++ hints_for naming (drop k ids) ≡ whole
+    → hints ++ hints_for naming (drop (k + 1) ids) ≡ whole
+left_out_next naming ids k hints whole less is before =
+    ap (λ zs. hints ++ zs) (ap (λ o. map pos (cons_option o (filter_map (stands_for naming) (drop (k + 1) ids)))) is ∙ sym (named_here naming ids k less)) ∙ before
+
+-- one more integer that a step may have
+pub proper_next : (hints : List ℤ) (z : ℤ) → z ≢ pos 0 → nat_abs z ≤ MAX_ID → AreStepIntegers hints → AreStepIntegers (hints ++ z ∷ [])
+proper_next [] z some within proper = ((some, within), tt)
+proper_next (y ∷ hints) z some within (here, proper) = (here, proper_next hints z some within proper)
 
 -- what is live is named
 pub named_as_live : (table : Table) (naming : Naming) → ((n : ℕ) → is_live table n ≡ is_some (stands_for naming n)) → (ids : List ℕ) → AreLive table ids → AreNamed naming ids
