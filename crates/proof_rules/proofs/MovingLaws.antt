@@ -1,18 +1,19 @@
 -- Ids that are moved in two passes are moved at once.
-use Rattle.std.proofs.Common.{◌≡◌, refl, sym, ap, ◌∙◌, subst, ℕ, Bool, true, false, cond, not, ◌||◌, eqb-true, eq-eqb, List, [], ◌∷◌, nat_eq, Option, Some, None, is_some, true≢false, Result, Ok, Err, is_ok, OnOk}
+use Rattle.std.proofs.Common.{◌≡◌, refl, sym, ap, ◌∙◌, subst, ℕ, Bool, true, false, cond, not, ◌||◌, eqb-true, eq-eqb, List, [], ◌∷◌, nat_eq, Option, Some, None, is_some, true≢false, Result, Ok, Err, is_ok, OnOk, MatchOption, ◌+◌, ◌<◌, length, get_or, drop, drop-cons, add-one}
 use Rattle.std.specs.List.{list_any}
 use Rattle.std.specs.Option.{option_map}
 use Rattle.std.specs.Ordering.{nat_cmp}
 use Rattle.std.specs.Cmp.{nat_cmp_total, unsigned_tied}
 use Rattle.std.specs.FinMap as map_
 use Rattle.std.proofs.lemmas.Bool.{or_parts}
+use Rattle.std.proofs.lemmas.List.{get_or-map}
 use Rattle.cx_base.specs.declared.id_moves.IdMove.{IdMove}
 use Rattle.cx_semantics.specs.Moves.{old_ids, new_ids, names_twice, without_ids, put_if, put_moved, moved}
 use Rattle.cx_semantics.proofs.MoveLaws.{AreThere}
 use Rattle.cx_semantics.specs.declared.cause.Cause.TheVariants.{NotLive, IdInUse}
 use Rattle.cx_semantics.specs.Judging.{refused_where}
 use Rattle.proof_rules.specs.Judges.{JudgesBy}
-use Rattle.proof_rules.specs.Moving.{meets_none, meets_some, moving_in}
+use Rattle.proof_rules.specs.Moving.{values_for, meets_none, meets_some, moving_in}
 use Rattle.proof_rules.specs.declared.refusal.JudgeRefusal.{JudgeRefusal}
 
 turned : (n k : ℕ) → nat_eq n k ≡ nat_eq k n
@@ -187,3 +188,38 @@ module _ {V W : Type 0} (seen : map_.FinMap nat_cmp V → map_.FinMap nat_cmp W)
       (sym (ap (λ b. b || names_twice (old_ids moves)) (none_seen contents moves h)))
       (ap (λ b. b || names_twice (new_ids moves)) (sym (some_seen (without_ids contents (old_ids moves)) moves h) ∙ ap (λ t. list_any (map_.contains_key t) (new_ids moves)) (without_seen moves contents h)))
       judged
+
+-- ---- one by one
+
+-- the move at a place, and those after it
+moves_from : (moves : List IdMove) (k : ℕ) (d : IdMove) → k < length moves → drop k moves ≡ get_or moves k d ∷ drop (k + 1) moves
+moves_from moves k d less = rw (add-one, drop-cons moves k d)
+
+-- what a look-up that found nothing says
+pub none_at : {R V : Type 0} (found : Option R) (o : Option V) (P : R → Type 0) → is_some found ≡ false → MatchOption found (o ≡ None) P → is_some o ≡ false
+none_at None o P none says = ap is_some says
+none_at (Some x) o P none says = absurd (true≢false none)
+
+module _ {V : Type 0} where
+  -- what was found for the move at a place
+  found_at : (first : map_.FinMap nat_cmp V) (moves : List IdMove) (found : List (Option V)) (k : ℕ) (d : IdMove) (x : Option V) → k < length moves → found ≡ values_for first moves → x ≡ get_or found k x → x ≡ map_.get first (get_or moves k d).from
+  found_at first moves found k d x less is here = here ∙ ap (λ xs. get_or xs k x) is ∙ get_or-map (λ (m : IdMove). map_.get first m.from) moves k d x less
+
+  -- one more value comes under its new id
+  pub put_moved_next : (first old new : map_.FinMap nat_cmp V) (moves : List IdMove) (found : List (Option V)) (k : ℕ) (d : IdMove) (x : Option V) → k < length moves → found ≡ values_for first moves → x ≡ get_or found k x
+      → new ≡ put_if old (get_or moves k d).to x → put_moved first new (drop (k + 1) moves) ≡ put_moved first old (drop k moves)
+  put_moved_next first old new moves found k d x less is here put =
+      let move = get_or moves k d in
+      let rest = drop (k + 1) moves in
+      ap (λ m. put_moved first m rest) (put ∙ ap (put_if old move.to) (found_at first moves found k d x less is here))
+      ∙ sym (ap (put_moved first old) (moves_from moves k d less))
+
+  -- nothing is under its new id
+  pub meets_some_next : (first old new : map_.FinMap nat_cmp V) (moves : List IdMove) (found : List (Option V)) (k : ℕ) (d : IdMove) (x : Option V) → k < length moves → found ≡ values_for first moves → x ≡ get_or found k x
+      → new ≡ put_if old (get_or moves k d).to x → map_.contains_key old (get_or moves k d).to ≡ false → meets_some first new (drop (k + 1) moves) ≡ meets_some first old (drop k moves)
+  meets_some_next first old new moves found k d x less is here put none =
+      let move = get_or moves k d in
+      let rest = drop (k + 1) moves in
+      ap (λ m. meets_some first m rest) (put ∙ ap (put_if old move.to) (found_at first moves found k d x less is here))
+      ∙ sym (ap (λ b. b || meets_some first (put_if old move.to (map_.get first move.from)) rest) none)
+      ∙ sym (ap (meets_some first old) (moves_from moves k d less))

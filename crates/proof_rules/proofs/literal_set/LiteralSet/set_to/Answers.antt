@@ -1,6 +1,8 @@
-use Rattle.std.proofs.Common.{◌≡◌, ◌∙◌, sym, subst, List, true}
+use Rattle.std.proofs.Common.{◌≡◌, ◌∙◌, ap, sym, subst, List, true}
+use Rattle.std.proofs.lemmas.List.{take_all}
 use Rattle.cx_base.specs.Literals.{Literal}
-use Rattle.cx_semantics.specs.Chain.{is_inside}
+use Rattle.cx_semantics.specs.Chain.{has_literal, is_inside}
+use Rattle.proof_rules.specs.LiteralSets.{ArePositive}
 use Rattle.proof_rules.proofs.LiteralLaws.{at_err, first_inside}
 use Rattle.proof_rules.proofs.literal_set.LiteralSet.set_to.Goals as goal
 
@@ -10,3 +12,9 @@ returns-in_err-put-clause-err c =
     let n = c.loop-lit.lit-index in
     at_err c.from_residual-in_err-put.result (is_inside c.put.new.lits.items lits ≡ true)
     (subst (λ (ls : List Literal). is_inside ls lits ≡ true) (sym (c.in_err-put.ensures.err ∙ c.loop-lit.invariant.so_far)) (first_inside lits n))
+
+pub returns-clause-same : goal.returns-clause-same
+returns-clause-same c l = ap (λ (ls : List Literal). has_literal ls l) (c.loop-lit.invariant.so_far ∙ take_all c.loop-lit.lit-index c.args.lits.now c.loop-lit-test.false)
+
+pub returns-clause-positive : goal.returns-clause-positive
+returns-clause-positive c = subst ArePositive (take_all c.loop-lit.lit-index c.args.lits.now c.loop-lit-test.false) c.loop-lit.invariant.positive

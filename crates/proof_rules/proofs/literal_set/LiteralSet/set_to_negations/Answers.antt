@@ -1,7 +1,7 @@
-use Rattle.std.proofs.Common.{◌≡◌, ◌∙◌, sym, subst, List, true}
-use Rattle.std.proofs.lemmas.List.{take-map}
+use Rattle.std.proofs.Common.{◌≡◌, ◌∙◌, ap, sym, subst, List, true}
+use Rattle.std.proofs.lemmas.List.{take_all, take-map}
 use Rattle.cx_base.specs.Literals.{Literal, negate}
-use Rattle.cx_semantics.specs.Chain.{is_inside, negations}
+use Rattle.cx_semantics.specs.Chain.{has_literal, is_inside, negations}
 use Rattle.proof_rules.proofs.LiteralLaws.{at_err, first_inside}
 use Rattle.proof_rules.proofs.literal_set.LiteralSet.set_to_negations.Goals as goal
 
@@ -11,3 +11,6 @@ returns-in_err-put-clause-err c =
     let n = c.loop-lit.lit-index in
     at_err c.from_residual-in_err-put.result (is_inside c.put.new.lits.items (negations lits) ≡ true)
     (subst (λ (ls : List Literal). is_inside ls (negations lits) ≡ true) (take-map negate n lits ∙ sym (c.in_err-put.ensures.err ∙ c.loop-lit.invariant.so_far)) (first_inside (negations lits) n))
+
+pub returns-clause-ok : goal.returns-clause-ok
+returns-clause-ok c l = ap (λ (ls : List Literal). has_literal ls l) (c.loop-lit.invariant.so_far ∙ ap negations (take_all c.loop-lit.lit-index c.args.lits.now c.loop-lit-test.false))

@@ -1,0 +1,26 @@
+use Rattle.std.proofs.Common.{◌≡◌, ◌∙◌, ap, sym, false, is_some, List, not}
+use Rattle.std.proofs.Math.ListN.{drop_of_length-le}
+use Rattle.cx_base.specs.declared.id_moves.IdMove.{IdMove}
+use Rattle.cx_semantics.specs.Moves.{put_moved}
+use Rattle.proof_rules.specs.Moving.{meets_some}
+use Rattle.proof_rules.proofs.MovingLaws.{none_at, put_moved_next, meets_some_next}
+use Rattle.proof_rules.proofs.moving.put_all_in.Goals as goal
+
+pub loop-place-preserved : goal.loop-place-preserved
+loop-place-preserved g c = record {
+  live = λ first is.
+      let none : is_some c.get.result ≡ false = cc in
+      meets_some_next first c.loop-place.values c.put_value.new.values c.args.moves.now c.args.found.now c.loop-place.place _ c.index-found-place.result c.loop-place-test.true is c.index-found-place.is c.in_ok-put_value.ensures
+      (none_at c.get.result _ _ none c.get.ensures)
+      ∙ c.loop-place.invariant.live first is;
+  put = λ first is.
+      put_moved_next first c.loop-place.values c.put_value.new.values c.args.moves.now c.args.found.now c.loop-place.place _ c.index-found-place.result c.loop-place-test.true is c.index-found-place.is c.in_ok-put_value.ensures
+      ∙ c.loop-place.invariant.put first is;
+}
+
+pub returns-clause-judged : goal.returns-clause-judged
+returns-clause-judged g c first is =
+    ap not (ap (λ (ms : List IdMove). meets_some first c.loop-place.values ms) (sym (drop_of_length-le c.args.moves.now c.loop-place-test.false)) ∙ c.loop-place.invariant.live first is)
+
+pub returns-clause-put : goal.returns-clause-put
+returns-clause-put g c done first is = ap (λ (ms : List IdMove). put_moved first c.loop-place.values ms) (sym (drop_of_length-le c.args.moves.now c.loop-place-test.false)) ∙ c.loop-place.invariant.put first is
