@@ -1,7 +1,9 @@
-use Rattle.std.proofs.Common.{◌≡◌, ◌⊎◌, true, false, sym, ap, ◌∙◌, subst, inl, inr}
+use Rattle.std.proofs.Common.{◌≡◌, ◌⊎◌, true, false, sym, ap, ◌∙◌, subst, inl, inr, arith}
+use Rattle.std.proofs.lemmas.List.{take_all}
 use Rattle.std.proofs.lemmas.Bool.Decides.{when_true, when_false}
 use Rattle.cx_base.specs.Literals.{same_literal}
 use Rattle.cx_semantics.specs.Chain.{has_literal}
+use Rattle.clause_tidy.specs.Shortened.{IsWithout}
 use Rattle.clause_tidy.proofs.WithoutLaws.{IsCounted, counted_more, counted_past}
 use Rattle.clause_tidy.proofs.shortening.without.Goals.{then-is_wanted+in_ok-push, else-is_wanted}
 use Rattle.clause_tidy.proofs.shortening.without.Goals as goal
@@ -26,3 +28,15 @@ loop-other-preserved c =
             | inr there ↦ inr (sym (ap (λ xs. has_literal xs x) c.deref.ensures.value) ∙ there)
           ]))
     ]
+
+pub returns-clause-without : goal.returns-clause-without
+returns-clause-without c =
+    let lits = c.args.lits.now in
+    subst (λ ls. IsWithout ls c.args.lit c.loop-other.found.items) (take_all c.loop-other.other-index lits c.loop-other-test.false) c.loop-other.invariant.so_far
+
+pub returns-clause-fewer : goal.returns-clause-fewer
+returns-clause-fewer c = λ has.
+    let all = take_all c.loop-other.other-index c.args.lits.now c.loop-other-test.false in
+    let less = c.loop-other.invariant.fewer (ap (λ ls. has_literal ls c.args.lit) all ∙ has) in
+    let within = c.loop-other.auto.other-index-end in
+    omega (arith, less, within)
