@@ -9,8 +9,8 @@ use cx_base::{ClauseRef, Lit};
 use cx_trail::{Entry, Reason, Trail};
 use std::alloc::{AllocError, Global};
 use watch_lists::{
-    Watches, compacted_references_fall, longer_trail_fits, new_watches_fit, renamed_watches_fit,
-    taken_back_fits,
+    Event, Watches, compacted_references_fall, longer_trail_fits, new_watches_fit,
+    renamed_watches_fit, taken_back_fits,
 };
 
 /// What is done, and told. Literals are given as integers, clauses by their places.
@@ -116,13 +116,13 @@ pub(crate) fn show_clause(
     format!(in alloc; "{:?} {id} {lbd} {learned}", lits.as_slice())
 }
 
-/// The literal, and by what it came.
-fn show_entry(alloc: Global, entry: &Entry) -> Result<String, AllocError> {
-    let literal = integer(entry.literal);
+/// Appends the literal, and by what it came.
+fn put_entry(entry: &Entry, text: &mut String) -> Result<(), AllocError> {
+    write!(text, "{}", integer(entry.literal))?;
     match entry.reason {
-        Reason::Clause(reference) => format!(in alloc; "{literal} by {} ", reference.place()),
-        Reason::Decision => format!(in alloc; "{literal} decided "),
-        Reason::Row(_) => format!(in alloc; "{literal} by a row "),
+        Reason::Clause(reference) => write!(text, " by {} ", reference.place()),
+        Reason::Decision => text.push_str(" decided "),
+        Reason::Row(_) => text.push_str(" by a row "),
     }
 }
 
@@ -130,9 +130,19 @@ fn show_entry(alloc: Global, entry: &Entry) -> Result<String, AllocError> {
 pub(crate) fn show_trail(alloc: Global, trail: &Trail) -> Result<String, AllocError> {
     let mut text = String::new(alloc);
     for entry in trail.seq() {
-        text.push_str(show_entry(alloc, entry)?.as_str())?;
+        put_entry(entry, &mut text)?;
     }
     Ok(text)
+}
+
+/// Whether something was done.
+fn show_done(alloc: Global, done: bool) -> Result<String, AllocError> {
+    String::from_str(alloc, if done { "true" } else { "false" })
+}
+
+/// What propagation came to.
+fn show_event(alloc: Global, event: Event) -> Result<String, AllocError> {
+    format!(in alloc; "{event:?}")
 }
 
 /// What is told of an act.
@@ -149,35 +159,40 @@ fn take(
     match act {
         Act::Attach => {
             let done = attach_all(watches, arena, trail)?;
-            format!(in alloc; "{done}")
+            show_done(alloc, done)
         }
         Act::Imply(integer, place) => {
             let done = imply_watched(arena, watches, trail, lit(integer), ClauseRef::new(place));
-            format!(in alloc; "{done}")
+            show_done(alloc, done)
         }
         Act::Decide(integer) => {
             let done = decide_watched(arena, watches, trail, lit(integer));
-            format!(in alloc; "{done}")
+            show_done(alloc, done)
         }
         Act::Propagate => {
             let event = watches.next_event(arena, trail);
-            format!(in alloc; "{event:?}")
+            show_event(alloc, event)
         }
         Act::Remove(place) => {
             let done = remove(watches, arena, trail, ClauseRef::new(place));
-            format!(in alloc; "{done}")
+            show_done(alloc, done)
         }
         Act::CloseGaps => {
             close_gaps(arena, watches, trail)?;
-            format!(in alloc; "closed")
+            String::from_str(alloc, "closed")
         }
         Act::StartAgain => {
             start_again(arena, watches, trail);
-            format!(in alloc; "back")
+            String::from_str(alloc, "back")
         }
         Act::ShowClause(place) => show_clause(alloc, arena, ClauseRef::new(place)),
         Act::ShowTrail => show_trail(alloc, trail),
     }
+}
+
+fn add_line(text: &mut String, line: &str) -> Result<(), AllocError> {
+    text.push_str(line)?;
+    text.push('\n')
 }
 
 /// What is told of acts, each on a line.
@@ -193,8 +208,7 @@ fn take_all(
     let mut text = String::new(alloc);
     for act in acts {
         let told = take(alloc, arena, watches, trail, *act)?;
-        text.push_str(told.as_str())?;
-        text.push('\n')?;
+        add_line(&mut text, told.as_str())?;
     }
     Ok(text)
 }

@@ -1,12 +1,12 @@
 //! Worked examples of compaction.
 use crate::acts::{Act, Row, add_all, show_clause, show_trail, told};
+use crate::expecting::expect;
 use crate::source::imply;
 use crate::writing::lit;
 use clause_arena::Arena;
 use cx_base::{ClauseRef, Move, Moved};
 use cx_trail::Trail;
 use std::alloc::{AllocError, Global};
-use std::test::Fail;
 
 /// Two clauses; the first one is removed.
 const TWO: [Row; 2] = [(&[1, 2], 7, 0, false), (&[-1, 3, 2], 8, 2, true)];
@@ -36,25 +36,22 @@ fn told_of_second(alloc: Global, arena: &mut Arena) -> Result<String, AllocError
 }
 
 #[test]
-fn the_clause_that_is_left_has_a_new_reference(rt: HostRuntime) -> Result<(), Fail> {
+fn the_clause_that_is_left_has_a_new_reference(rt: HostRuntime) {
     let mut arena = Arena::make(rt.alloc());
-    let told = told_of_second(rt.alloc(), &mut arena)?;
     let wanted = "None Some(ClauseRef { place: 0 }) [-1, 3, 2] 8 2 true of 1";
-    assert_eq!(rt; told.as_str(), wanted);
-    Ok(())
+    expect(&rt, told_of_second(rt.alloc(), &mut arena), wanted);
 }
 
 /// Closes the gaps of an arena. Where its first clause is then, and how many references there are.
-fn compacted(arena: &mut Arena) -> Result<(Option<ClauseRef>, usize), AllocError> {
+fn compacted(alloc: Global, arena: &mut Arena) -> Result<String, AllocError> {
     let moved = arena.compact()?;
-    Ok((moved.to(ClauseRef::new(0)), arena.len()))
+    format!(in alloc; "{:?} of {}", moved.to(ClauseRef::new(0)), arena.len())
 }
 
 #[test]
-fn an_empty_arena_stays_empty(rt: HostRuntime) -> Result<(), Fail> {
+fn an_empty_arena_stays_empty(rt: HostRuntime) {
     let mut arena = Arena::make(rt.alloc());
-    assert_eq!(rt; compacted(&mut arena)?, (None, 0));
-    Ok(())
+    expect(&rt, compacted(rt.alloc(), &mut arena), "None of 0");
 }
 
 /// The move of the clause at a place to another one.
@@ -68,18 +65,22 @@ fn move_of(alloc: Global, old: u32, new: u32) -> Result<Moved, AllocError> {
 }
 
 /// What is told of a trail, where a clause implied its literal and has moved.
-fn renamed(alloc: Global, trail: &mut Trail) -> Result<String, AllocError> {
+fn renamed_in(alloc: Global, trail: &mut Trail) -> Result<String, AllocError> {
     let moved = move_of(alloc, 5, 2)?;
     imply(trail, lit(1), ClauseRef::new(5));
     trail.rename(&moved);
     show_trail(alloc, trail)
 }
 
+/// As `renamed_in`, of a new trail.
+fn renamed(alloc: Global) -> Result<String, AllocError> {
+    let mut trail = Trail::make(alloc, 2)?;
+    renamed_in(alloc, &mut trail)
+}
+
 #[test]
-fn a_reason_takes_its_new_reference(rt: HostRuntime) -> Result<(), Fail> {
-    let mut trail = Trail::make(rt.alloc(), 2)?;
-    assert_eq!(rt; renamed(rt.alloc(), &mut trail)?.as_str(), "1 by 2 ");
-    Ok(())
+fn a_reason_takes_its_new_reference(rt: HostRuntime) {
+    expect(&rt, renamed(rt.alloc()), "1 by 2 ");
 }
 
 /// A clause that gave its literal at level 0, and two that go on to force theirs.
@@ -123,7 +124,6 @@ Quiet
 ";
 
 #[test]
-fn all_name_a_clause_by_its_new_reference(rt: HostRuntime) -> Result<(), Fail> {
-    assert_eq!(rt; told(rt.alloc(), 4, &ROWS, &ACTS)?.as_str(), WANTED);
-    Ok(())
+fn all_name_a_clause_by_its_new_reference(rt: HostRuntime) {
+    expect(&rt, told(rt.alloc(), 4, &ROWS, &ACTS), WANTED);
 }

@@ -7,6 +7,8 @@ mod acts;
 #[cfg(test)]
 mod compaction;
 #[cfg(test)]
+mod expecting;
+#[cfg(test)]
 mod planting;
 #[cfg(test)]
 mod policy;

@@ -1,12 +1,30 @@
 //! Planted instances. The literals come from SplitMix64 as its authors give it, computed apart from this repository.
+ghost use Rattle.std.specs.Prelude.{◌≤◌};
+
+use crate::expecting::expect;
 use crate::writing::show;
 use inst_gen::{InstanceKind, planted};
-use std::test::Fail;
+use std::alloc::{AllocError, Global};
+
+/// What `show` tells of an instance of this kind and size that is planted from this seed.
+fn told(
+    alloc: Global,
+    kind: InstanceKind,
+    size: u32,
+    seed: u64,
+    places: &[usize],
+) -> Result<String, AllocError>
+    requires low { 4 ≤ size }
+    requires high { size ≤ 2000 }
+{
+    let formula = planted(alloc, kind, size, seed)?;
+    show(alloc, &formula, places)
+}
 
 #[test]
-fn the_smallest_odd_instance(rt: HostRuntime) -> Result<(), Fail> {
-    let formula = planted(rt.alloc(), InstanceKind::Odd, 4, 0)?;
-    let told = show(rt.alloc(), &formula, &[0, 1, 2, 3, 4, 5, 6, 9])?;
+fn the_smallest_odd_instance(rt: HostRuntime) {
+    let places = [0, 1, 2, 3, 4, 5, 6, 9];
+    let told = told(rt.alloc(), InstanceKind::Odd, 4, 0, &places);
     let wanted = "\
 5 10 8
 0: x [4, 2, 1]
@@ -18,14 +36,13 @@ fn the_smallest_odd_instance(rt: HostRuntime) -> Result<(), Fail> {
 6: [-5, 1, 2]
 9: [-5, -1, -2]
 ";
-    assert_eq!(rt; told.as_str(), wanted);
-    Ok(())
+    expect(&rt, told, wanted);
 }
 
 #[test]
-fn an_odd_instance_of_sixty(rt: HostRuntime) -> Result<(), Fail> {
-    let formula = planted(rt.alloc(), InstanceKind::Odd, 60, 7)?;
-    let told = show(rt.alloc(), &formula, &[0, 1, 2, 15, 16, 74, 76])?;
+fn an_odd_instance_of_sixty(rt: HostRuntime) {
+    let places = [0, 1, 2, 15, 16, 74, 76];
+    let told = told(rt.alloc(), InstanceKind::Odd, 60, 7, &places);
     let wanted = "\
 61 80 64
 0: x [4, 1, 1]
@@ -36,15 +53,12 @@ fn an_odd_instance_of_sixty(rt: HostRuntime) -> Result<(), Fail> {
 74: [-34, 19, -17]
 76: [-61, 1, 2]
 ";
-    assert_eq!(rt; told.as_str(), wanted);
-    Ok(())
+    expect(&rt, told, wanted);
 }
 
 #[test]
-fn an_even_instance_of_sixty(rt: HostRuntime) -> Result<(), Fail> {
-    let formula = planted(rt.alloc(), InstanceKind::Even, 60, 7)?;
-    let told = show(rt.alloc(), &formula, &[2, 74])?;
+fn an_even_instance_of_sixty(rt: HostRuntime) {
+    let told = told(rt.alloc(), InstanceKind::Even, 60, 7, &[2, 74]);
     let wanted = "60 75 60\n2: x [-12, 8, 7]\n74: [-34, 19, -17]\n";
-    assert_eq!(rt; told.as_str(), wanted);
-    Ok(())
+    expect(&rt, told, wanted);
 }

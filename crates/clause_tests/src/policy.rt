@@ -1,9 +1,11 @@
 //! Worked examples of the search's policy.
 ghost use Rattle.std.specs.Prelude.{◌≡◌, ◌≤◌, length};
 
+use crate::expecting::{expect, expect_equal};
 use cx_base::{ClauseRef, Var};
 use cx_trail::Trail;
 use search_policy::{Card, Order, choose_removed, choose_removed_in_place, luby, restart_due};
+use std::alloc::{AllocError, Global};
 use std::test::Fail;
 
 const FIRST_NUMBERS: [u64; 15] = [1, 1, 2, 1, 1, 2, 4, 1, 1, 2, 1, 1, 2, 4, 8];
@@ -19,7 +21,7 @@ fn first_numbers() -> [u64; 15] {
 
 #[test]
 fn luby_begins_with_its_known_numbers(rt: HostRuntime) {
-    assert_eq!(rt; first_numbers(), FIRST_NUMBERS);
+    expect_equal(&rt, &first_numbers(), &FIRST_NUMBERS);
 }
 
 #[test]
@@ -28,10 +30,8 @@ fn luby_ends_its_longest_block_with_the_greatest_power(rt: HostRuntime) {
         luby(9_223_372_036_854_775_807),
         luby(9_223_372_036_854_775_806),
     ];
-    assert_eq!(rt;
-        last,
-        [4_611_686_018_427_387_904, 2_305_843_009_213_693_952]
-    );
+    let wanted = [4_611_686_018_427_387_904, 2_305_843_009_213_693_952];
+    expect_equal(&rt, &last, &wanted);
 }
 
 #[test]
@@ -44,7 +44,7 @@ fn a_restart_is_due_after_a_hundred_conflicts_for_each(rt: HostRuntime) {
         restart_due(399, 7),
         restart_due(400, 7),
     ];
-    assert_eq!(rt; due, [false, true, false, true, false, true]);
+    expect_equal(&rt, &due, &[false, true, false, true, false, true]);
 }
 
 // The card of a learned clause whose reference is ten more than its id.
@@ -58,8 +58,14 @@ fn card(id: u32, lbd: u32, is_reason: bool) -> Card {
     }
 }
 
+/// The clauses that are removed of these.
+fn removed(alloc: Global, cards: &[Card]) -> Result<String, AllocError> {
+    let removed = choose_removed(alloc, cards)?;
+    format!(in alloc; "{:?}", removed.as_slice())
+}
+
 #[test]
-fn half_of_those_with_many_levels_go(rt: HostRuntime) -> Result<(), Fail> {
+fn half_of_those_with_many_levels_go(rt: HostRuntime) {
     let cards = [
         card(1, 5, false),
         card(2, 2, false),
@@ -68,27 +74,28 @@ fn half_of_those_with_many_levels_go(rt: HostRuntime) -> Result<(), Fail> {
         card(5, 7, false),
         card(6, 3, false),
     ];
-    let removed = choose_removed(rt.alloc(), &cards)?;
-    assert_eq!(rt;
-        removed.as_slice(),
-        [ClauseRef::new(15), ClauseRef::new(11)].as_slice()
-    );
-    Ok(())
+    let wanted = "[ClauseRef { place: 15 }, ClauseRef { place: 11 }]";
+    expect(&rt, removed(rt.alloc(), &cards), wanted);
+}
+
+/// As `removed`, where they are chosen in the list.
+fn removed_in_place(alloc: Global, cards: &[Card]) -> Result<String, AllocError> {
+    let removed = choose_removed_in_place(alloc, cards.to_vec(alloc)?)?;
+    format!(in alloc; "{:?}", removed.as_slice())
 }
 
 #[test]
-fn clauses_of_the_formula_stay(rt: HostRuntime) -> Result<(), Fail> {
+fn clauses_of_the_formula_stay(rt: HostRuntime) {
     let mut given = card(1, 9, false);
     given.learned = false;
-    let cards = vec![in rt.alloc();
+    let cards = [
         given,
         card(2, 8, false),
         card(3, 7, false),
         card(4, 6, false),
-    ]?;
-    let removed = choose_removed_in_place(rt.alloc(), cards)?;
-    assert_eq!(rt; removed.as_slice(), [ClauseRef::new(12)].as_slice());
-    Ok(())
+    ];
+    let removed = removed_in_place(rt.alloc(), &cards);
+    expect(&rt, removed, "[ClauseRef { place: 12 }]");
 }
 
 /// The picks of a new order, after four bumps of the third and three of the second, and after one more; and the weight.
@@ -109,7 +116,7 @@ fn many_bumps_are_those_one_by_one(rt: HostRuntime) -> Result<(), Fail> {
     let trail = Trail::make(rt.alloc(), 3)?;
     let mut order = Order::make(rt.alloc(), 3)?;
     let picks = [Some(Var::new(1)), Some(Var::new(3)), Some(Var::new(2))];
-    assert_eq!(rt; bumped(&mut order, &trail), (picks, 1024));
+    expect_equal(&rt, &bumped(&mut order, &trail), &(picks, 1024));
     Ok(())
 }
 
@@ -154,7 +161,7 @@ fn bumps_go_on_after_all_scores_were_halved(rt: HostRuntime) -> Result<(), Fail>
     let trail = Trail::make(rt.alloc(), 2)?;
     let mut order = Order::make(rt.alloc(), 2)?;
     let picks = [Some(Var::new(1)), Some(Var::new(2))];
-    assert_eq!(rt; halved(&mut order, &trail), ([1024, 512], picks));
+    expect_equal(&rt, &halved(&mut order, &trail), &([1024, 512], picks));
     Ok(())
 }
 
@@ -173,6 +180,6 @@ fn weights(order: &mut Order) -> [u32; 3] {
 #[test]
 fn the_weight_grows_by_a_thirty_second(rt: HostRuntime) -> Result<(), Fail> {
     let mut order = Order::make(rt.alloc(), 1)?;
-    assert_eq!(rt; weights(&mut order), [1056, 1089, 250_000_000]);
+    expect_equal(&rt, &weights(&mut order), &[1056, 1089, 250_000_000]);
     Ok(())
 }

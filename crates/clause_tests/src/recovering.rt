@@ -1,10 +1,10 @@
 //! Parities recovered from clauses.
 ghost use Rattle.std.specs.Prelude.{◌≡◌, [], OnOk};
 
+use crate::expecting::expect;
 use crate::writing::{integers, lit};
 use cx_base::{Formula, FormulaBuilder};
 use std::alloc::{AllocError, Global};
-use std::test::Fail;
 use xor_recover::{FoundParity, recover};
 
 /// Adds a clause.
@@ -26,11 +26,12 @@ fn formula(alloc: Global, clauses: &[&[i32]]) -> Result<Formula, AllocError> {
     Ok(builder.finish(1))
 }
 
-/// A parity, and the numbers of the clauses that it comes from.
-fn show(alloc: Global, found: &FoundParity) -> Result<String, AllocError> {
+/// Appends a parity, and the numbers of the clauses that it comes from.
+fn put(alloc: Global, found: &FoundParity, text: &mut String) -> Result<(), AllocError> {
     let parity = integers(alloc, found.parity.as_slice())?;
-    format!(in alloc;
-        "{:?} by {:?}\n",
+    writeln!(
+        text,
+        "{:?} by {:?}",
         parity.as_slice(),
         found.clauses.as_slice()
     )
@@ -39,38 +40,40 @@ fn show(alloc: Global, found: &FoundParity) -> Result<String, AllocError> {
 fn show_all(alloc: Global, finds: &[FoundParity]) -> Result<String, AllocError> {
     let mut text = String::new(alloc);
     for found in finds {
-        text.push_str(show(alloc, found)?.as_str())?;
+        put(alloc, found, &mut text)?;
     }
     Ok(text)
 }
 
-/// The parities that are recovered from clauses, each on a line.
-fn told(alloc: Global, clauses: &[&[i32]]) -> Result<String, AllocError> {
-    let formula = formula(alloc, clauses)?;
-    let finds = recover(alloc, &formula)?.into_vec();
+/// The parities that are recovered from the clauses of a formula, each on a line.
+fn told_of(alloc: Global, formula: &Formula) -> Result<String, AllocError> {
+    let finds = recover(alloc, formula)?.into_vec();
     show_all(alloc, &finds)
 }
 
+/// As `told_of`, of these clauses.
+fn told(alloc: Global, clauses: &[&[i32]]) -> Result<String, AllocError> {
+    let formula = formula(alloc, clauses)?;
+    told_of(alloc, &formula)
+}
+
 #[test]
-fn two_parities_over_one_set(rt: HostRuntime) -> Result<(), Fail> {
+fn two_parities_over_one_set(rt: HostRuntime) {
     let clauses: [&[i32]; 4] = [&[1, 2], &[-1, 2], &[1, -2], &[-1, -2]];
     let wanted = "[-1, 2] by [2, 3]\n[1, 2] by [1, 4]\n";
-    assert_eq!(rt; told(rt.alloc(), &clauses)?.as_str(), wanted);
-    Ok(())
+    expect(&rt, told(rt.alloc(), &clauses), wanted);
 }
 
 #[test]
-fn a_parity_of_three(rt: HostRuntime) -> Result<(), Fail> {
+fn a_parity_of_three(rt: HostRuntime) {
     let clauses: [&[i32]; 4] = [&[1, 2, 3], &[1, -2, -3], &[-1, 2, -3], &[-1, -2, 3]];
     let wanted = "[1, 2, 3] by [1, 2, 3, 4]\n";
-    assert_eq!(rt; told(rt.alloc(), &clauses)?.as_str(), wanted);
-    Ok(())
+    expect(&rt, told(rt.alloc(), &clauses), wanted);
 }
 
 #[test]
-fn repeats_and_copies(rt: HostRuntime) -> Result<(), Fail> {
+fn repeats_and_copies(rt: HostRuntime) {
     let clauses: [&[i32]; 4] = [&[2, -1, 2], &[1, -1, 2], &[-1, 2], &[-2, 1]];
     let wanted = "[-1, 2] by [1, 4]\n";
-    assert_eq!(rt; told(rt.alloc(), &clauses)?.as_str(), wanted);
-    Ok(())
+    expect(&rt, told(rt.alloc(), &clauses), wanted);
 }

@@ -35,22 +35,28 @@ fn clause_count(formula: &Formula) -> usize {
     count
 }
 
-/// The constraint at a place; a parity has an `x` in front, and an assumption constraint an `a`.
-fn show_item(alloc: Global, formula: &Formula, place: usize) -> Result<String, AllocError> {
+/// A constraint's literals, and what is in front: an `x` of a parity, and an `a` of an assumption constraint.
+fn parts(item: ConstraintRef<'_>) -> (&'static str, &[Lit]) {
+    match item {
+        ConstraintRef::Clause(lits) => ("", lits),
+        ConstraintRef::Parity(lits) => ("x ", lits),
+        ConstraintRef::Assume(lits) => ("a ", lits),
+    }
+}
+
+/// Appends the constraint at a place.
+fn put_item(
+    alloc: Global,
+    formula: &Formula,
+    place: usize,
+    text: &mut String,
+) -> Result<(), AllocError> {
     if place >= formula.len() {
-        return format!(in alloc; "{place}: none\n");
+        return writeln!(text, "{place}: none");
     }
-    match formula.item(place) {
-        ConstraintRef::Clause(lits) => {
-            format!(in alloc; "{place}: {:?}\n", integers(alloc, lits)?.as_slice())
-        }
-        ConstraintRef::Parity(lits) => {
-            format!(in alloc; "{place}: x {:?}\n", integers(alloc, lits)?.as_slice())
-        }
-        ConstraintRef::Assume(lits) => {
-            format!(in alloc; "{place}: a {:?}\n", integers(alloc, lits)?.as_slice())
-        }
-    }
+    let (front, lits) = parts(formula.item(place));
+    let integers = integers(alloc, lits)?;
+    writeln!(text, "{place}: {front}{:?}", integers.as_slice())
 }
 
 /// How many variables, constraints and clauses a formula has, and its constraints at these places.
@@ -62,7 +68,7 @@ pub(crate) fn show(
     let (vars, len) = (formula.vars(), formula.len());
     let mut text = format!(in alloc; "{vars} {len} {}\n", clause_count(formula))?;
     for place in places {
-        text.push_str(show_item(alloc, formula, *place)?.as_str())?;
+        put_item(alloc, formula, *place, &mut text)?;
     }
     Ok(text)
 }

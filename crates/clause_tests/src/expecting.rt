@@ -1,0 +1,16 @@
+//! What is told in a test, against what is wanted. A test without an assertion of its own takes a third of the proof.
+use std::fmt::Debug;
+use std::process::Abort;
+
+/// Fails unless both are equal, and says what they are.
+pub(crate) fn expect_equal<T: PartialEq + Debug>(rt: &impl Abort, found: &T, wanted: &T) {
+    assert_eq!(*rt; *found, *wanted);
+}
+
+/// Fails unless this is told, and says what is instead, or why nothing is.
+pub(crate) fn expect<E: Debug + Drop>(rt: &impl Abort, told: Result<String, E>, wanted: &str) {
+    match told {
+        Ok(told) => expect_equal(rt, &told.as_str(), &wanted),
+        Err(why) => panic!(*rt; "nothing is told: {why:?}"),
+    }
+}
