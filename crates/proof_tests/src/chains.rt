@@ -1,11 +1,11 @@
 //! The two searches for chains, beside each other over tables that a seed draws. Each chain is judged.
+use crate::expecting::expect;
 use crate::formulas::square;
 use crate::numbers::{next, some_lits};
-use cx_base::{IdList, LitList};
+use cx_base::{Formula, IdList, LitList};
 use proof_rules::{JudgeRefusal, Kind, LiteralSet, Live, judge_chain};
 use rup_finder::{IndexedClauses, find};
 use std::alloc::{AllocError, Global};
-use std::test::Fail;
 
 /// What a search gave.
 #[derive(Clone, Copy, Drop)]
@@ -34,6 +34,15 @@ fn hints_of(alloc: Global, ids: &IdList) -> Result<Vec<i64>, AllocError> {
     Ok(hints)
 }
 
+/// What is to be said of a chain that was judged.
+fn outcome_of(judged: Result<(), JudgeRefusal>) -> Result<Outcome, AllocError> {
+    match judged {
+        Ok(()) => Ok(Outcome::Right),
+        Err(JudgeRefusal::Wrong(_)) => Ok(Outcome::Wrong),
+        Err(JudgeRefusal::Memory) => Err(AllocError),
+    }
+}
+
 /// What the judge says of a chain for the target.
 fn judged(
     alloc: Global,
@@ -43,11 +52,7 @@ fn judged(
 ) -> Result<Outcome, AllocError> {
     let hints = hints_of(alloc, ids)?;
     let mut assumed = LiteralSet::new(alloc);
-    match judge_chain(&mut assumed, live, target, &hints) {
-        Ok(()) => Ok(Outcome::Right),
-        Err(JudgeRefusal::Wrong(_)) => Ok(Outcome::Wrong),
-        Err(JudgeRefusal::Memory) => Err(AllocError),
-    }
+    outcome_of(judge_chain(&mut assumed, live, target, &hints))
 }
 
 /// What is to be said of what a search found.
@@ -106,6 +111,19 @@ fn change(
     Ok(())
 }
 
+/// Searches a chain for a target both ways, and counts what comes of it.
+fn search(
+    alloc: Global,
+    clauses: &mut IndexedClauses,
+    target: &LitList,
+    tally: &mut Tally,
+) -> Result<(), AllocError> {
+    let plain = plainly(alloc, clauses.live(), target)?;
+    let watched = watched(alloc, clauses, target)?;
+    count(tally, plain, watched);
+    Ok(())
+}
+
 /// Changes one clause of this many, and searches a chain for one target.
 fn turn(
     alloc: Global,
@@ -117,10 +135,7 @@ fn turn(
     let id = next(seed) % ids.max(1);
     change(alloc, seed, vars, clauses, id)?;
     let target = some_lits(alloc, seed, vars)?;
-    let plain = plainly(alloc, clauses.live(), &target)?;
-    let watched = watched(alloc, clauses, &target)?;
-    count(tally, plain, watched);
-    Ok(())
+    search(alloc, clauses, &target, tally)
 }
 
 /// So many turns that an engine is worn out more than once, over this many variables and ids. The one over recent clauses
@@ -138,10 +153,9 @@ fn turns(
     Ok(())
 }
 
-/// What comes of the turns, from no clause on, beside a formula whose clauses come among the others.
-fn tally_of(alloc: Global, size: (u32, u64)) -> Result<Tally, AllocError> {
-    let formula = square(alloc)?;
-    let mut clauses = IndexedClauses::make(alloc, &formula);
+/// What comes of the turns, from no clause on, beside a formula.
+fn tally_beside(alloc: Global, formula: &Formula, size: (u32, u64)) -> Result<Tally, AllocError> {
+    let mut clauses = IndexedClauses::make(alloc, formula);
     let mut tally = Tally {
         chains: 0,
         nones: 0,
@@ -151,6 +165,12 @@ fn tally_of(alloc: Global, size: (u32, u64)) -> Result<Tally, AllocError> {
     Ok(tally)
 }
 
+/// As `tally_beside`, of a formula whose clauses come among the others.
+fn tally_of(alloc: Global, size: (u32, u64)) -> Result<Tally, AllocError> {
+    let formula = square(alloc)?;
+    tally_beside(alloc, &formula, size)
+}
+
 /// Writes the tally, unless the searches agree, and both answers come often.
 fn put_fault(alloc: Global, faults: &mut String, size: (u32, u64)) -> Result<(), AllocError> {
     let tally = tally_of(alloc, size)?;
@@ -158,8 +178,10 @@ fn put_fault(alloc: Global, faults: &mut String, size: (u32, u64)) -> Result<(),
         return Ok(());
     }
     let (vars, chains, nones) = (size.0, tally.chains, tally.nones);
-    let line = format!(in alloc; "of {vars} variables: {chains} chains, {nones} nones\n")?;
-    faults.push_str(line.as_str())
+    writeln!(
+        faults,
+        "of {vars} variables: {chains} chains, {nones} nones"
+    )
 }
 
 /// The tallies of these sizes that are not as they should be.
@@ -172,8 +194,7 @@ fn faults(alloc: Global, sizes: &[(u32, u64)]) -> Result<String, AllocError> {
 }
 
 #[test]
-fn both_searches_agree(rt: HostRuntime) -> Result<(), Fail> {
-    let faults = faults(rt.alloc(), &[(5, 12), (9, 40), (30, 60)])?;
-    assert_eq!(rt; faults.as_str(), "");
-    Ok(())
+fn both_searches_agree(rt: HostRuntime) {
+    let faults = faults(rt.alloc(), &[(5, 12), (9, 40), (30, 60)]);
+    expect(&rt, faults, "");
 }

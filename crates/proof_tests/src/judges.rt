@@ -1,14 +1,14 @@
 //! Small cases of each judge, worked by hand.
+use crate::expecting::expect;
 use crate::formulas::square;
 use crate::numbers::lits;
-use cx_base::LitList;
+use cx_base::{Formula, LitList};
 use cx_semantics::Cause;
 use proof_rules::{
     JudgeMarks, JudgeRefusal, Kind, LiteralSet, Live, judge_chain, judge_clause_of_parity,
     judge_parity_of_clauses, judge_sum,
 };
 use std::alloc::{AllocError, Global};
-use std::test::Fail;
 
 /// A live constraint: its kind, its id and its literals.
 type Row = (Kind, u64, &'static [i64]);
@@ -107,6 +107,18 @@ fn cause(judged: Result<(), JudgeRefusal>) -> Result<Option<Cause>, AllocError> 
     }
 }
 
+/// What the judge says of the clause or parity of these integers.
+fn found(
+    alloc: Global,
+    court: &mut Court,
+    judge: Judge,
+    integers: &[i64],
+    named: &[i64],
+) -> Result<Option<Cause>, AllocError> {
+    let target = lits(alloc, integers)?;
+    cause(judged(court, judge, &target, named))
+}
+
 /// Writes what the judge says of a case, if that is not what is wanted.
 fn put_other(
     alloc: Global,
@@ -116,12 +128,11 @@ fn put_other(
     case: &Case,
 ) -> Result<(), AllocError> {
     let (integers, named, wanted) = *case;
-    let target = lits(alloc, integers)?;
-    let found = cause(judged(court, judge, &target, named))?;
+    let found = found(alloc, court, judge, integers, named)?;
     if found == wanted {
         return Ok(());
     }
-    others.push_str(format!(in alloc; "{integers:?} by {named:?}: {found:?}\n")?.as_str())
+    writeln!(others, "{integers:?} by {named:?}: {found:?}")
 }
 
 fn put_others(
@@ -137,47 +148,52 @@ fn put_others(
     Ok(())
 }
 
-/// As `put_others`, of cases over the rows, and of others when a row of this kind and id is gone.
+/// A judge, its cases over the rows, the row that is gone then, and its cases without that.
+type Trial = (Judge, &'static [Case], (Kind, u64), &'static [Case]);
+
+/// As `put_others`, of a trial.
 fn put_others_of(
     alloc: Global,
     others: &mut String,
     court: &mut Court,
-    judge: Judge,
-    cases: &[Case],
-    gone: (Kind, u64),
-    cases_then: &[Case],
+    trial: &Trial,
 ) -> Result<(), AllocError> {
+    let (judge, cases, gone, cases_then) = *trial;
     add_all(alloc, &mut court.live, &ROWS)?;
     put_others(alloc, others, court, judge, cases)?;
     court.live.remove(gone.0, gone.1);
     put_others(alloc, others, court, judge, cases_then)
 }
 
-/// The cases that are judged otherwise than wanted: those over the rows, and those where a row of this kind and id is gone.
-fn others(
+/// As `put_others_of`, with a table that refers to the clauses of a formula and has copies of other constraints.
+fn put_others_beside(
     alloc: Global,
-    judge: Judge,
-    cases: &[Case],
-    gone: (Kind, u64),
-    cases_then: &[Case],
-) -> Result<String, AllocError> {
-    // The formula has the four clauses, so that the table refers to these and has copies of the others.
-    let formula = square(alloc)?;
+    others: &mut String,
+    formula: &Formula,
+    trial: &Trial,
+) -> Result<(), AllocError> {
     let mut court = Court {
-        live: Live::beside(alloc, &formula),
+        live: Live::beside(alloc, formula),
         assumed: LiteralSet::new(alloc),
         marks: JudgeMarks::new(alloc),
     };
+    put_others_of(alloc, others, &mut court, trial)
+}
+
+/// As `put_others_beside`, where the formula has four of the clauses.
+fn put_others_beside_square(
+    alloc: Global,
+    others: &mut String,
+    trial: &Trial,
+) -> Result<(), AllocError> {
+    let formula = square(alloc)?;
+    put_others_beside(alloc, others, &formula, trial)
+}
+
+/// The cases that are judged otherwise than wanted.
+fn others(alloc: Global, trial: &Trial) -> Result<String, AllocError> {
     let mut others = String::new(alloc);
-    put_others_of(
-        alloc,
-        &mut others,
-        &mut court,
-        judge,
-        cases,
-        gone,
-        cases_then,
-    )?;
+    put_others_beside_square(alloc, &mut others, trial)?;
     Ok(others)
 }
 
@@ -196,11 +212,10 @@ const CHAINS: [Case; 8] = [
 const CHAINS_THEN: [Case; 1] = [(&[2], &[1, 2], Some(Cause::HintNotLive))];
 
 #[test]
-fn chains(rt: HostRuntime) -> Result<(), Fail> {
+fn chains(rt: HostRuntime) {
     let gone = (Kind::Clauses, 2);
-    let others = others(rt.alloc(), Judge::Chain, &CHAINS, gone, &CHAINS_THEN)?;
-    assert_eq!(rt; others.as_str(), "");
-    Ok(())
+    let trial: Trial = (Judge::Chain, &CHAINS, gone, &CHAINS_THEN);
+    expect(&rt, others(rt.alloc(), &trial), "");
 }
 
 const SUMS: [Case; 10] = [
@@ -220,11 +235,10 @@ const SUMS: [Case; 10] = [
 const SUMS_THEN: [Case; 1] = [(&[1, 2], &[1], Some(Cause::HintNotLive))];
 
 #[test]
-fn sums(rt: HostRuntime) -> Result<(), Fail> {
+fn sums(rt: HostRuntime) {
     let gone = (Kind::Parities, 1);
-    let others = others(rt.alloc(), Judge::Sum, &SUMS, gone, &SUMS_THEN)?;
-    assert_eq!(rt; others.as_str(), "");
-    Ok(())
+    let trial: Trial = (Judge::Sum, &SUMS, gone, &SUMS_THEN);
+    expect(&rt, others(rt.alloc(), &trial), "");
 }
 
 const CLAUSES_OF_A_PARITY: [Case; 8] = [
@@ -242,16 +256,15 @@ const CLAUSES_OF_A_PARITY: [Case; 8] = [
 const CLAUSES_OF_A_PARITY_THEN: [Case; 1] = [(&[1, 2], &[1], Some(Cause::HintNotLive))];
 
 #[test]
-fn clauses_of_a_parity(rt: HostRuntime) -> Result<(), Fail> {
-    let others = others(
-        rt.alloc(),
+fn clauses_of_a_parity(rt: HostRuntime) {
+    let gone = (Kind::Parities, 1);
+    let trial: Trial = (
         Judge::ClauseOfParity,
         &CLAUSES_OF_A_PARITY,
-        (Kind::Parities, 1),
+        gone,
         &CLAUSES_OF_A_PARITY_THEN,
-    )?;
-    assert_eq!(rt; others.as_str(), "");
-    Ok(())
+    );
+    expect(&rt, others(rt.alloc(), &trial), "");
 }
 
 const PARITIES_OF_CLAUSES: [Case; 8] = [
@@ -277,14 +290,13 @@ const PARITIES_OF_CLAUSES: [Case; 8] = [
 const PARITIES_OF_CLAUSES_THEN: [Case; 1] = [(&[1, 2], &[1, 4], Some(Cause::HintNotLive))];
 
 #[test]
-fn parities_of_clauses(rt: HostRuntime) -> Result<(), Fail> {
-    let others = others(
-        rt.alloc(),
+fn parities_of_clauses(rt: HostRuntime) {
+    let gone = (Kind::Clauses, 4);
+    let trial: Trial = (
         Judge::ParityOfClauses,
         &PARITIES_OF_CLAUSES,
-        (Kind::Clauses, 4),
+        gone,
         &PARITIES_OF_CLAUSES_THEN,
-    )?;
-    assert_eq!(rt; others.as_str(), "");
-    Ok(())
+    );
+    expect(&rt, others(rt.alloc(), &trial), "");
 }

@@ -4,6 +4,8 @@
 #[cfg(test)]
 mod chains;
 #[cfg(test)]
+mod expecting;
+#[cfg(test)]
 mod formulas;
 #[cfg(test)]
 mod judges;

@@ -1,11 +1,11 @@
 //! Worked logs: what is answered, and the proof that is written.
+use crate::expecting::expect;
 use crate::formulas::{repeated, square};
 use cx_base::Formula;
-use fratx_elab::{Elab, Joined, elaborate};
+use fratx_elab::{Elab, ElabFault, Joined, elaborate};
 use log_text::LogText;
 use proof_text::ListProof;
 use std::alloc::{AllocError, Global};
-use std::test::Fail;
 
 /// The steps of a proof, if the log was to be answered so.
 fn steps_or_answer(
@@ -21,7 +21,7 @@ fn steps_or_answer(
 }
 
 /// Elaborates a log of at most 4,096 bytes that is to end at the step of this number. The steps that are written, if it does.
-fn written(alloc: Global, formula: &Formula, log: &str, last: u64) -> Result<String, Fail> {
+fn written(alloc: Global, formula: &Formula, log: &str, last: u64) -> Result<String, ElabFault> {
     let log = log.as_bytes();
     if log.len() > 4096 {
         return Ok(String::from_str(alloc, "too long")?);
@@ -64,15 +64,14 @@ fn put_other(
     others: &mut String,
     formula: &Formula,
     case: &Case,
-) -> Result<(), Fail> {
+) -> Result<(), ElabFault> {
     let (between, hints, last, wanted) = *case;
     let log = format!(in alloc; "{ORIGINALS}{between}a 20 2 0 {hints}\na 21 0 l 20 12 13 0\n")?;
     let steps = written(alloc, formula, log.as_str(), last)?;
     if is_one_of(steps.as_str(), wanted) {
         return Ok(());
     }
-    others.push_str(format!(in alloc; "{log}{steps}\n")?.as_str())?;
-    Ok(())
+    Ok(writeln!(others, "{log}{steps}")?)
 }
 
 fn put_others(
@@ -80,7 +79,7 @@ fn put_others(
     others: &mut String,
     formula: &Formula,
     cases: &[Case],
-) -> Result<(), Fail> {
+) -> Result<(), ElabFault> {
     for case in cases {
         put_other(alloc, others, formula, case)?;
     }
@@ -88,7 +87,7 @@ fn put_others(
 }
 
 /// The logs of which comes another proof than wanted.
-fn others(alloc: Global, cases: &[Case]) -> Result<String, Fail> {
+fn others(alloc: Global, cases: &[Case]) -> Result<String, ElabFault> {
     let formula = square(alloc)?;
     let mut others = String::new(alloc);
     put_others(alloc, &mut others, &formula, cases)?;
@@ -104,9 +103,8 @@ const GIVEN: [Case; 5] = [
 ];
 
 #[test]
-fn a_proof_is_written(rt: HostRuntime) -> Result<(), Fail> {
-    assert_eq!(rt; others(rt.alloc(), &GIVEN)?.as_str(), "");
-    Ok(())
+fn a_proof_is_written(rt: HostRuntime) {
+    expect(&rt, others(rt.alloc(), &GIVEN), "");
 }
 
 /// Without hints, and with wrong ones.
@@ -118,9 +116,8 @@ const SEARCHED: [Case; 3] = [
 
 /// Either order of the hints that are found is right.
 #[test]
-fn a_chain_is_searched_for(rt: HostRuntime) -> Result<(), Fail> {
-    assert_eq!(rt; others(rt.alloc(), &SEARCHED)?.as_str(), "");
-    Ok(())
+fn a_chain_is_searched_for(rt: HostRuntime) {
+    expect(&rt, others(rt.alloc(), &SEARCHED), "");
 }
 
 /// Clauses and parities of the formula in which others say the same: under their own numbers and under others, in other orders of
@@ -134,12 +131,12 @@ const NAMED_ONCE: &str = "[Parity(3, IntList { integers: [1, -1] }, IntList { in
     Clause(7, IntList { integers: [2] }, IntList { integers: [1, 3] }), \
     Clause(8, IntList { integers: [] }, IntList { integers: [6, 4, 5] })]";
 
+fn written_of_repeated(alloc: Global) -> Result<String, ElabFault> {
+    let formula = repeated(alloc)?;
+    written(alloc, &formula, SAID_TWICE, 11)
+}
+
 #[test]
-fn the_least_number_names_an_original(rt: HostRuntime) -> Result<(), Fail> {
-    let formula = repeated(rt.alloc())?;
-    assert_eq!(rt;
-        written(rt.alloc(), &formula, SAID_TWICE, 11)?.as_str(),
-        NAMED_ONCE
-    );
-    Ok(())
+fn the_least_number_names_an_original(rt: HostRuntime) {
+    expect(&rt, written_of_repeated(rt.alloc()), NAMED_ONCE);
 }

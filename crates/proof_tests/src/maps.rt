@@ -1,9 +1,9 @@
 //! The map from ids beside an ordered map.
+use crate::expecting::expect;
 use crate::numbers::next;
 use proof_rules::IdMap;
 use std::alloc::{AllocError, Global};
 use std::collections::BTreeMap;
-use std::test::Fail;
 
 /// An id that is small, or a little larger, or far.
 fn some_id(seed: &mut u64) -> u64 {
@@ -92,21 +92,21 @@ fn faults(
     alloc: Global,
     map: &mut IdMap<u64>,
     ordered: &mut BTreeMap<u64, u64>,
-) -> Result<(Option<u64>, bool, bool), AllocError> {
+) -> Result<String, AllocError> {
     let fault = first_fault(map, ordered)?;
     let at_ids = agree_at_ids(alloc, map, ordered)?;
-    Ok((fault, at_ids, agree_at_keys(map, ordered)))
+    let at_keys = agree_at_keys(map, ordered);
+    format!(in alloc; "{fault:?} {at_ids} {at_keys}")
 }
 
 /// As `faults`, of maps that are empty at first.
-fn faults_from_empty(alloc: Global) -> Result<(Option<u64>, bool, bool), AllocError> {
+fn faults_from_empty(alloc: Global) -> Result<String, AllocError> {
     let mut map = IdMap::new(alloc);
     let mut ordered = BTreeMap::new(alloc);
     faults(alloc, &mut map, &mut ordered)
 }
 
 #[test]
-fn as_an_ordered_map(rt: HostRuntime) -> Result<(), Fail> {
-    assert_eq!(rt; faults_from_empty(rt.alloc())?, (None, true, true));
-    Ok(())
+fn as_an_ordered_map(rt: HostRuntime) {
+    expect(&rt, faults_from_empty(rt.alloc()), "None true true");
 }

@@ -1,12 +1,13 @@
 //! Worked proofs, and what is left of them when they are trimmed.
 ghost use Rattle.std.specs.Prelude.{◌≡◌, false};
 
+use crate::expecting::expect_told;
 use cnfx_reader::read_formula;
 use cx_base::ProofStep;
 use cx_semantics::Cause;
 use proof_text::{ProofText, StepRef};
 use proof_trim::{KeptSteps, TrimOf, trim};
-use std::alloc::Global;
+use std::alloc::{AllocError, Global};
 use std::test::Fail;
 use step_text::{SpareLists, StepSource};
 
@@ -23,9 +24,8 @@ enum Wanted {
 type Row = (&'static str, &'static str, Wanted);
 
 /// Puts a step after others.
-fn push_step(alloc: Global, text: &mut String, step: StepRef<'_>) -> Result<(), Fail> {
-    text.push_str(format!(in alloc; "{step:?} ")?.as_str())?;
-    Ok(())
+fn push_step(text: &mut String, step: StepRef<'_>) -> Result<(), AllocError> {
+    write!(text, "{step:?} ")
 }
 
 /// The next steps, at most sixteen.
@@ -36,7 +36,7 @@ fn steps_of<S: StepSource<Step = ProofStep>>(alloc: Global, source: &mut S) -> R
     let mut text = String::new(alloc);
     for _ in 0..16 {
         match source.next_step(&mut spare)? {
-            Some(step) => push_step(alloc, &mut text, StepRef::of(&step))?,
+            Some(step) => push_step(&mut text, StepRef::of(&step))?,
             None => return Ok(text),
         }
     }
@@ -44,26 +44,31 @@ fn steps_of<S: StepSource<Step = ProofStep>>(alloc: Global, source: &mut S) -> R
 }
 
 /// The steps that are left, at most sixteen.
-fn steps_left(alloc: Global, steps: &mut KeptSteps) -> Result<String, Fail> {
+fn steps_left(alloc: Global, steps: &mut KeptSteps) -> Result<String, AllocError> {
     let mut text = String::new(alloc);
     for _ in 0..16 {
         if !steps.advance() {
             return Ok(text);
         }
-        push_step(alloc, &mut text, steps.step())?;
+        push_step(&mut text, steps.step())?;
     }
     Ok(text)
 }
 
-fn left(alloc: Global, steps: &str, clauses: &[u64], parities: &[u64]) -> Result<String, Fail> {
-    Ok(format!(in alloc; "{steps}, clauses {clauses:?}, parities {parities:?}")?)
+fn left(
+    alloc: Global,
+    steps: &str,
+    clauses: &[u64],
+    parities: &[u64],
+) -> Result<String, AllocError> {
+    format!(in alloc; "{steps}, clauses {clauses:?}, parities {parities:?}")
 }
 
-fn refused(alloc: Global, step: u64, cause: Cause) -> Result<String, Fail> {
-    Ok(format!(in alloc; "step {step}: {cause:?}")?)
+fn refused(alloc: Global, step: u64, cause: Cause) -> Result<String, AllocError> {
+    format!(in alloc; "step {step}: {cause:?}")
 }
 
-fn told_of(alloc: Global, answer: TrimOf) -> Result<String, Fail> {
+fn told_of(alloc: Global, answer: TrimOf) -> Result<String, AllocError> {
     match answer {
         TrimOf::Done(mut trimmed) => {
             let steps = steps_left(alloc, &mut trimmed.steps)?;
@@ -85,24 +90,24 @@ fn told(alloc: Global, formula: &str, proof: &str) -> Result<String, Fail> {
     if proof.len() > 4096 {
         return Ok(String::from_str(alloc, "too long")?);
     }
-    told_of(alloc, trim(alloc, &formula, &mut ProofText::new(proof))?)
+    Ok(told_of(alloc, trim(alloc, &formula, &mut ProofText::new(proof))?)?)
+}
+
+/// What is told where steps of at most 4,096 bytes are left.
+fn left_of(alloc: Global, steps: &[u8], clauses: &[u64], parities: &[u64]) -> Result<String, Fail> {
+    if steps.len() > 4096 {
+        return Ok(String::from_str(alloc, "too long")?);
+    }
+    let steps = steps_of(alloc, &mut ProofText::new(steps))?;
+    Ok(left(alloc, steps.as_str(), clauses, parities)?)
 }
 
 fn wanted_of(alloc: Global, wanted: &Wanted) -> Result<String, Fail> {
     match *wanted {
         Wanted::Left(steps, clauses, parities) => {
-            let steps = steps.as_bytes();
-            if steps.len() > 4096 {
-                return Ok(String::from_str(alloc, "too long")?);
-            }
-            left(
-                alloc,
-                steps_of(alloc, &mut ProofText::new(steps))?.as_str(),
-                clauses,
-                parities,
-            )
+            left_of(alloc, steps.as_bytes(), clauses, parities)
         }
-        Wanted::Refused(step, cause) => refused(alloc, step, cause),
+        Wanted::Refused(step, cause) => Ok(refused(alloc, step, cause)?),
     }
 }
 
@@ -118,8 +123,7 @@ fn put_other(
     if told.as_str() == wanted_of(alloc, wanted)?.as_str() {
         return Ok(());
     }
-    others.push_str(format!(in alloc; "{proof}{told}\n")?.as_str())?;
-    Ok(())
+    Ok(writeln!(others, "{proof}{told}")?)
 }
 
 /// Goes over a row, and over the steps that are left of its proof: trimmed again they are all left.
@@ -210,6 +214,6 @@ const ROWS: [Row; 10] = [
 
 #[test]
 fn needed_steps_are_left(rt: HostRuntime) -> Result<(), Fail> {
-    assert_eq!(rt; others(rt.alloc(), &ROWS)?.as_str(), "");
+    expect_told(&rt, others(rt.alloc(), &ROWS)?.as_str(), "");
     Ok(())
 }
