@@ -1,10 +1,10 @@
 //! Worked answers: what is printed, and what is read or refused.
+use crate::expecting::expect;
 use crate::formulas::formula;
 use cx_base::{Formula, Lit, Var};
 use cx_desk::{MemDesk, Port, Rooms};
 use model_out::{put_answer, read_answer};
 use std::alloc::{AllocError, Global};
-use std::test::Fail;
 
 /// The values that a text gives as an answer to the formula, or why it is none, on a line.
 fn answer_of(alloc: Global, formula: &Formula, text: &[u8]) -> Result<String, AllocError> {
@@ -37,39 +37,46 @@ fn put(alloc: Global, desk: &mut MemDesk, count: usize) -> Result<bool, AllocErr
     Ok(put_answer(desk, &values).is_ok())
 }
 
-/// What is written of this many true values, with a `!` after it where that was all.
-fn printed_on(alloc: Global, desk: &mut MemDesk, count: usize) -> Result<Vec<u8>, AllocError> {
+/// Appends what is written of this many true values, and a `!` where that was all.
+fn add_on(
+    alloc: Global,
+    desk: &mut MemDesk,
+    count: usize,
+    told: &mut String,
+) -> Result<(), AllocError> {
     let done = put(alloc, desk, count)?;
-    let mut text = desk.written(Port::Answer).to_vec(alloc)?;
-    if done {
-        text.push(b'!')?;
-    }
-    Ok(text)
+    told.push_str(std::str::from_utf8(desk.written(Port::Answer)).unwrap_or("no text"))?;
+    told.push_str(if done { "!" } else { "" })
 }
 
-/// As `printed_on`, on an answer port with this much room.
-fn printed(alloc: Global, count: usize, answer: usize) -> Result<Vec<u8>, AllocError> {
+/// As `add_on`, on an answer port with this much room.
+fn add_printed(
+    alloc: Global,
+    count: usize,
+    answer: usize,
+    told: &mut String,
+) -> Result<(), AllocError> {
     let rooms = Rooms {
         answer: answer.min(16_384),
         proof: 0,
         message: 0,
     };
     let mut desk = MemDesk::make(alloc, Vec::new(alloc), rooms, 5, Vec::new(alloc))?;
-    printed_on(alloc, &mut desk, count)
+    add_on(alloc, &mut desk, count, told)
 }
 
-/// As `printed`, for each count and room, one after another.
-fn all_printed(alloc: Global, cases: &[(usize, usize)]) -> Result<Vec<u8>, AllocError> {
-    let mut all = Vec::new(alloc);
+/// What `add_printed` appends for each count and room.
+fn printed(alloc: Global, cases: &[(usize, usize)]) -> Result<String, AllocError> {
+    let mut told = String::new(alloc);
     for (count, answer) in cases {
-        all.extend_from_slice(&printed(alloc, *count, *answer)?)?;
+        add_printed(alloc, *count, *answer, &mut told)?;
     }
-    Ok(all)
+    Ok(told)
 }
 
 #[test]
-fn sixteen_literals_stand_on_a_line(rt: HostRuntime) -> Result<(), Fail> {
-    let text = all_printed(rt.alloc(), &[(0, 100), (16, 100), (17, 100), (17, 3)])?;
+fn sixteen_literals_stand_on_a_line(rt: HostRuntime) {
+    let told = printed(rt.alloc(), &[(0, 100), (16, 100), (17, 100), (17, 3)]);
     let wanted = "\
 s SATISFIABLE
 v 0
@@ -79,16 +86,19 @@ v 1 2 3 4 5 6 7 8 9 10 11 12 13 14 15 16 0
 v 1 2 3 4 5 6 7 8 9 10 11 12 13 14 15 16
 v 17 0
 !s S";
-    assert_eq!(rt; text.as_slice(), wanted.as_bytes());
-    Ok(())
+    expect(&rt, told, wanted);
+}
+
+/// How many bytes are written of two thousand true values, and whether they end right.
+fn length_of_long(alloc: Global) -> Result<String, AllocError> {
+    let text = printed(alloc, &[(2000, 10_000)])?;
+    let ends = text.as_bytes().ends_with(b" 1999 2000 0\n!");
+    format!(in alloc; "{} {ends}", text.len())
 }
 
 #[test]
-fn a_long_answer_is_written_whole(rt: HostRuntime) -> Result<(), Fail> {
-    let text = printed(rt.alloc(), 2000, 10_000)?;
-    let found = (text.len(), text.as_slice().ends_with(b" 1999 2000 0\n!"));
-    assert_eq!(rt; found, (9160, true));
-    Ok(())
+fn a_long_answer_is_written_whole(rt: HostRuntime) {
+    expect(&rt, length_of_long(rt.alloc()), "9160 true");
 }
 
 /// Texts for the formula that is the parity of 1 and 2 and the clause of 1.
@@ -142,7 +152,6 @@ Unmet(2)
 ";
 
 #[test]
-fn an_answer_gives_its_values_or_why_it_is_none(rt: HostRuntime) -> Result<(), Fail> {
-    assert_eq!(rt; answers(rt.alloc(), &TEXTS)?.as_str(), WANTED);
-    Ok(())
+fn an_answer_gives_its_values_or_why_it_is_none(rt: HostRuntime) {
+    expect(&rt, answers(rt.alloc(), &TEXTS), WANTED);
 }

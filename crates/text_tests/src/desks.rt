@@ -2,10 +2,10 @@
 ghost use Rattle.std.specs.Prelude.{◌≡◌, None, true};
 ghost use Rattle.cx_desk.specs.Memory.{outside_of};
 
+use crate::expecting::expect;
 use crate::one_file::{desk, start};
 use cx_desk::{Desk, MemDesk, Port, RepeatDesk, Rooms, Slot, drain, read_whole};
 use std::alloc::{AllocError, Global};
-use std::test::Fail;
 
 /// The file's bytes.
 const TEXT: &[u8] = b"abcde";
@@ -130,17 +130,20 @@ fn take(alloc: Global, desk: &mut MemDesk, act: Act) -> Result<String, AllocErro
     }
 }
 
-/// Appends what comes of an act, and the faults of reads, writes and messages.
+/// Appends the faults of reads, writes and messages.
+fn add_faults(desk: &MemDesk, told: &mut String) -> Result<(), AllocError> {
+    let reads = desk.read_faults();
+    let writes = desk.write_faults();
+    let messages = desk.message_faults();
+    writeln!(told, ", faults {reads} {writes} {messages}")
+}
+
+/// Appends what comes of an act, and the faults.
 fn add_act(alloc: Global, desk: &mut MemDesk, act: Act, told: &mut String) -> Result<(), AllocError>
     requires { (outside_of desk.old).asked.formula ≡ None }
 {
     told.push_str(take(alloc, desk, act)?.as_str())?;
-    let (reads, writes, messages) = (
-        desk.read_faults(),
-        desk.write_faults(),
-        desk.message_faults(),
-    );
-    writeln!(told, ", faults {reads} {writes} {messages}")
+    add_faults(desk, told)
 }
 
 /// As `add_act`, on a new desk.
@@ -203,22 +206,20 @@ Ok(2) Err(Failed) 2, faults 0 0 1
 ";
 
 #[test]
-fn calls_do_what_their_names_say_up_to_a_limit(rt: HostRuntime) -> Result<(), Fail> {
-    assert_eq!(rt; told(rt.alloc(), &CASES)?.as_str(), WANTED);
-    Ok(())
+fn calls_do_what_their_names_say_up_to_a_limit(rt: HostRuntime) {
+    expect(&rt, told(rt.alloc(), &CASES), WANTED);
 }
 
 /// Whether a text without an end was opened, whether reading it up to a limit fails, and how many bytes it gave.
-fn read_endless(alloc: Global) -> Result<(bool, bool, u64), AllocError> {
+fn read_endless(alloc: Global) -> Result<String, AllocError> {
     let name = String::from_str(alloc, "any")?;
     let mut desk = RepeatDesk::make(b'a');
     let opened = desk.start(Slot::Second, name).is_ok();
     let fails = read_whole(alloc, &mut desk, Slot::Second, 4).is_err();
-    Ok((opened, fails, desk.taken()))
+    format!(in alloc; "{opened} {fails} {}", desk.taken())
 }
 
 #[test]
-fn a_text_without_an_end_is_too_long(rt: HostRuntime) -> Result<(), Fail> {
-    assert_eq!(rt; read_endless(rt.alloc())?, (true, true, 5));
-    Ok(())
+fn a_text_without_an_end_is_too_long(rt: HostRuntime) {
+    expect(&rt, read_endless(rt.alloc()), "true true 5");
 }

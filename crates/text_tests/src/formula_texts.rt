@@ -1,42 +1,31 @@
 //! Worked texts: what is refused and where, and what is read.
-use cnfx_reader::read_formula;
+use crate::expecting::expect;
+use cnfx_reader::{ReadRefusal, read_formula};
 use cx_base::{ConstraintRef, Formula, Lit};
-use std::alloc::Global;
-use std::test::Fail;
+use std::alloc::{AllocError, Global};
 
 /// Writes the literals, each after a space.
-fn show_lits(out: &mut String, lits: &[Lit]) -> Result<(), Fail> {
+fn show_lits(out: &mut String, lits: &[Lit]) -> Result<(), AllocError> {
     for lit in lits {
-        let number = lit.var().number();
-        if lit.is_negative() {
-            write!(out, " -{number}")?;
-        } else {
-            write!(out, " {number}")?;
-        }
+        let sign = if lit.is_negative() { "-" } else { "" };
+        write!(out, " {sign}{}", lit.var().number())?;
     }
     Ok(())
 }
 
 /// Writes a constraint after a colon; a parity has an `x` in front, and an assumption constraint an `a`.
-fn show_item(out: &mut String, item: ConstraintRef) -> Result<(), Fail> {
-    match item {
-        ConstraintRef::Clause(lits) => {
-            out.push_str(":")?;
-            show_lits(out, lits)
-        }
-        ConstraintRef::Parity(lits) => {
-            out.push_str(": x")?;
-            show_lits(out, lits)
-        }
-        ConstraintRef::Assume(lits) => {
-            out.push_str(": a")?;
-            show_lits(out, lits)
-        }
-    }
+fn show_item(out: &mut String, item: ConstraintRef) -> Result<(), AllocError> {
+    let (front, lits) = match item {
+        ConstraintRef::Clause(lits) => (":", lits),
+        ConstraintRef::Parity(lits) => (": x", lits),
+        ConstraintRef::Assume(lits) => (": a", lits),
+    };
+    out.push_str(front)?;
+    show_lits(out, lits)
 }
 
 /// Writes each constraint.
-fn show_items(out: &mut String, formula: &Formula) -> Result<(), Fail> {
+fn show_items(out: &mut String, formula: &Formula) -> Result<(), AllocError> {
     for item in formula.items() {
         show_item(out, item)?;
     }
@@ -44,7 +33,7 @@ fn show_items(out: &mut String, formula: &Formula) -> Result<(), Fail> {
 }
 
 /// The number of variables, and each constraint.
-pub(crate) fn show(alloc: Global, formula: &Formula) -> Result<String, Fail> {
+pub(crate) fn show(alloc: Global, formula: &Formula) -> Result<String, AllocError> {
     let vars = formula.vars();
     let mut out = format!(in alloc; "{vars}")?;
     show_items(&mut out, formula)?;
@@ -52,13 +41,13 @@ pub(crate) fn show(alloc: Global, formula: &Formula) -> Result<String, Fail> {
 }
 
 /// The formula of a text.
-fn shown(alloc: Global, text: &[u8]) -> Result<String, Fail> {
+fn shown(alloc: Global, text: &[u8]) -> Result<String, ReadRefusal> {
     let formula = read_formula(alloc, text)?;
-    show(alloc, &formula)
+    Ok(show(alloc, &formula)?)
 }
 
 /// The formulas of the texts, each on a line.
-fn all_shown(alloc: Global, texts: &[&[u8]]) -> Result<String, Fail> {
+fn all_shown(alloc: Global, texts: &[&[u8]]) -> Result<String, ReadRefusal> {
     let mut all = String::new(alloc);
     for text in texts {
         all.push_str(shown(alloc, text)?.as_str())?;
@@ -68,7 +57,7 @@ fn all_shown(alloc: Global, texts: &[&[u8]]) -> Result<String, Fail> {
 }
 
 #[test]
-fn formulas(rt: HostRuntime) -> Result<(), Fail> {
+fn formulas(rt: HostRuntime) {
     let texts: [&[u8]; 8] = [
         b"p cnf 0 0",
         b"c hi\r\np cnf 1 1\r\n1 0\r\n%\r\n0\r\n",
@@ -81,6 +70,5 @@ fn formulas(rt: HostRuntime) -> Result<(), Fail> {
     ];
     let wanted =
         "0\n1: 1\n2: x 1 1 2: 1\n2: x\n2: x -1 2\n2: x -1 2\n3: x 1 2: a -1 3: a: 1\n268435455: 1 -268435455:\n";
-    assert_eq!(rt; all_shown(rt.alloc(), &texts)?.as_str(), wanted);
-    Ok(())
+    expect(&rt, all_shown(rt.alloc(), &texts), wanted);
 }

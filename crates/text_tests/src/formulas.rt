@@ -1,9 +1,9 @@
 //! A small formula: the values that meet it, and its clauses and parities one by one.
 ghost use Rattle.std.specs.Prelude.{◌≡◌, [], OnOk};
 
+use crate::expecting::expect;
 use cx_base::{ConstraintRef, Formula, FormulaBuilder, Lit, Var};
 use std::alloc::{AllocError, Global};
-use std::test::Fail;
 
 /// Adds a parity of literals, and a clause of one.
 fn add(builder: &mut FormulaBuilder, parity: &[Lit], clause: Lit) -> Result<(), AllocError>
@@ -99,7 +99,6 @@ clause 1
 ";
 
 #[test]
-fn a_small_formula(rt: HostRuntime) -> Result<(), Fail> {
-    assert_eq!(rt; told(rt.alloc())?.as_str(), WANTED);
-    Ok(())
+fn a_small_formula(rt: HostRuntime) {
+    expect(&rt, told(rt.alloc()), WANTED);
 }

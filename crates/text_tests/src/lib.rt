@@ -8,6 +8,8 @@ mod command_lines;
 #[cfg(test)]
 mod desks;
 #[cfg(test)]
+mod expecting;
+#[cfg(test)]
 mod formula_texts;
 #[cfg(test)]
 mod formulas;

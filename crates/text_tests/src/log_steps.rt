@@ -4,7 +4,8 @@ ghost use Rattle.cx_base.specs.declared.steps.LogEvent.TheVariants.{Step};
 ghost use Rattle.cx_texts.specs.Printed.{HasText};
 ghost use Rattle.step_text.specs.Texts.{is_spent_by};
 
-use crate::reprinting::{Reprint, endings_of};
+use crate::expecting::expect_bytes;
+use crate::reprinting::{Reprint, add_line, endings_of};
 use cx_base::LogEvent;
 use cx_desk::{MemDesk, Port, Rooms};
 use log_text::{ListLog, LogStep, LogText, NoLog, put_log, put_log_step};
@@ -111,8 +112,7 @@ fn add_twice(
 ) -> Result<(), Fail> {
     let ending = add_steps(alloc, text, desk, told)?;
     told.extend_from_slice(desk.written(Port::Answer))?;
-    told.extend_from_slice(format!(in alloc; "{ending:?}\n")?.as_bytes())?;
-    Ok(())
+    Ok(add_line(alloc, ending, told)?)
 }
 
 /// A desk with room for steps and logs.
@@ -150,8 +150,7 @@ fn marks_are_lines_that_are_passed_over(rt: HostRuntime) -> Result<(), Fail> {
     // the steps, the log with the marks that were kept in it, and no refusal
     let wanted =
         b"o 1 1 0\na 2 0 l 1 0\nd 1 0\no 1 1 0\nc conflict 1\na 2 0 l 1 0\nc conflict 2\nd 1 0\nc conflict 3\nNone\n".as_slice();
-    assert_eq!(rt; printed_twice(rt.alloc(), text)?.as_slice(), wanted);
-    Ok(())
+    expect_bytes(&rt, printed_twice(rt.alloc(), text), wanted)
 }
 
 /// Texts of logs.
@@ -237,6 +236,5 @@ Some(BadToken(8))
 
 #[test]
 fn steps_come_back_up_to_a_refusal(rt: HostRuntime) -> Result<(), Fail> {
-    assert_eq!(rt; endings_of::<Logs>(rt.alloc(), &TEXTS)?.as_slice(), WANTED);
-    Ok(())
+    expect_bytes(&rt, endings_of::<Logs>(rt.alloc(), &TEXTS), WANTED)
 }

@@ -16,6 +16,21 @@ pub(crate) const NO_ROOM: Rooms = Rooms {
     message: 0,
 };
 
+/// The file with these bytes.
+fn file(alloc: Global, text: &[u8]) -> Result<NamedFile, AllocError> {
+    Ok(NamedFile {
+        name: String::from_str(alloc, NAME)?,
+        bytes: Vec::from_slice(alloc, text)?,
+    })
+}
+
+/// A list of that file.
+fn files(alloc: Global, text: &[u8]) -> Result<Vec<NamedFile>, AllocError> {
+    let mut files = Vec::new(alloc);
+    files.push(file(alloc, text)?)?;
+    Ok(files)
+}
+
 /// A desk whose file has these bytes, and whose calls of these numbers fail.
 pub(crate) fn desk(
     alloc: Global,
@@ -28,12 +43,8 @@ pub(crate) fn desk(
     ensures { IfOk result (λ m.
         (outside_of m).asked ≡ record { formula = None; second = None; proof = None }) }
 {
-    let mut files = Vec::new(alloc);
-    files.push(NamedFile {
-        name: String::from_str(alloc, NAME)?,
-        bytes: Vec::from_slice(alloc, text)?,
-    })?;
-    MemDesk::make(alloc, files, rooms, piece, Vec::from_slice(alloc, failing)?)
+    let failing = Vec::from_slice(alloc, failing)?;
+    MemDesk::make(alloc, files(alloc, text)?, rooms, piece, failing)
 }
 
 /// Opens the file for a slot. Whether that worked.

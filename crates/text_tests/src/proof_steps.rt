@@ -5,6 +5,7 @@ ghost use Rattle.step_text.specs.Texts.{is_spent_by};
 ghost use Rattle.proof_text.specs.Told.{is_whole, Prints};
 ghost use Rattle.cx_desk.specs.Memory.{outside_of};
 
+use crate::expecting::expect_bytes;
 use crate::reprinting::{Reprint, endings_of};
 use cx_desk::{Desk, Failed, MemDesk, Port, Rooms};
 use proof_text::{DeskProof, ListProof, ProofStep, ProofText, put_proof_step};
@@ -171,11 +172,7 @@ Some(Unterminated(7))
 
 #[test]
 fn steps_come_back_up_to_a_refusal(rt: HostRuntime) -> Result<(), Fail> {
-    assert_eq!(rt;
-        endings_of::<Proofs>(rt.alloc(), &TEXTS)?.as_slice(),
-        WANTED
-    );
-    Ok(())
+    expect_bytes(&rt, endings_of::<Proofs>(rt.alloc(), &TEXTS), WANTED)
 }
 
 /// The place of the bad token for which a source refuses its next step, if it does.
@@ -266,11 +263,7 @@ fn torn_on_new(alloc: Global) -> Result<Vec<u8>, Fail> {
 
 #[test]
 fn a_torn_step_is_the_last_one(rt: HostRuntime) -> Result<(), Fail> {
-    assert_eq!(rt;
-        torn_on_new(rt.alloc())?.as_slice(),
-        b"6 0 0\n7 |1 1".as_slice()
-    );
-    Ok(())
+    expect_bytes(&rt, torn_on_new(rt.alloc()), b"6 0 0\n7 |1 1")
 }
 
 /// The first step of a kept proof as it is printed.
@@ -307,6 +300,5 @@ fn kept(alloc: Global) -> Result<Vec<u8>, Fail> {
 
 #[test]
 fn kept_steps_are_those_given(rt: HostRuntime) -> Result<(), Fail> {
-    assert_eq!(rt; kept(rt.alloc())?.as_slice(), b"6 0 0\n|3 3".as_slice());
-    Ok(())
+    expect_bytes(&rt, kept(rt.alloc()), b"6 0 0\n|3 3")
 }

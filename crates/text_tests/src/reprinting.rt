@@ -1,6 +1,6 @@
 //! Texts of steps that are read, and printed again: what the texts of proofs and of logs have in common.
 
-use std::alloc::Global;
+use std::alloc::{AllocError, Global};
 use std::test::Fail;
 use step_text::TextRefusal;
 
@@ -14,11 +14,19 @@ pub(crate) trait Reprint {
     ) -> Result<Option<TextRefusal>, Fail>;
 }
 
+/// Appends how a text's steps end.
+pub(crate) fn add_line(
+    alloc: Global,
+    ending: Option<TextRefusal>,
+    told: &mut Vec<u8>,
+) -> Result<(), AllocError> {
+    told.extend_from_slice(format!(in alloc; "{ending:?}\n")?.as_bytes())
+}
+
 /// Appends the steps of a text, and the refusal that it ends with.
 fn add_ending<R: Reprint>(alloc: Global, text: &[u8], all: &mut Vec<u8>) -> Result<(), Fail> {
     let ending = R::reprint(alloc, text, all)?;
-    all.extend_from_slice(format!(in alloc; "{ending:?}\n")?.as_bytes())?;
-    Ok(())
+    Ok(add_line(alloc, ending, all)?)
 }
 
 /// The steps of each text, and the refusal that it ends with.

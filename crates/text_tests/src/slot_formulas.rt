@@ -2,29 +2,34 @@
 ghost use Rattle.std.specs.Prelude.{◌≡◌, ◌≤◌, None};
 ghost use Rattle.cx_desk.specs.Memory.{outside_of};
 
+use crate::expecting::expect;
 use crate::formula_texts::show;
 use crate::one_file::{NO_ROOM, desk, start};
 use cnfx_reader::{read_formula, read_formula_from};
 use cx_desk::{MemDesk, Slot};
-use std::alloc::Global;
-use std::test::Fail;
+use std::alloc::{AllocError, Global};
 
 /// What is read of the file of a desk.
-fn told_on(alloc: Global, desk: &mut MemDesk, limit: u64) -> Result<String, Fail>
+fn told_on(alloc: Global, desk: &mut MemDesk, limit: u64) -> Result<String, AllocError>
     requires asked { (outside_of desk.old).asked.formula ≡ None }
     requires limit { limit ≤ 4294967295 }
 {
     if !start(alloc, desk, Slot::Formula)? {
-        return Ok(String::from_str(alloc, "not opened")?);
+        return String::from_str(alloc, "not opened");
     }
     match read_formula_from(alloc, desk, Slot::Formula, limit) {
         Ok(formula) => show(alloc, &formula),
-        Err(refusal) => Ok(format!(in alloc; "{refusal:?}")?),
+        Err(refusal) => format!(in alloc; "{refusal:?}"),
     }
 }
 
 /// What is read of a text that comes in pieces of this length.
-fn told_in_pieces(alloc: Global, text: &[u8], piece: usize, limit: u64) -> Result<String, Fail>
+fn told_in_pieces(
+    alloc: Global,
+    text: &[u8],
+    piece: usize,
+    limit: u64,
+) -> Result<String, AllocError>
     requires piece { 1 ≤ piece }
     requires limit { limit ≤ 4294967295 }
 {
@@ -33,17 +38,30 @@ fn told_in_pieces(alloc: Global, text: &[u8], piece: usize, limit: u64) -> Resul
 }
 
 /// What is read of a whole text, if it is within the limit.
-fn told_whole(alloc: Global, text: &[u8], limit: u64) -> Result<String, Fail> {
+fn told_whole(alloc: Global, text: &[u8], limit: u64) -> Result<String, AllocError> {
     if text.len() as u64 > limit {
-        return Ok(String::from_str(alloc, "TooLong")?);
+        return String::from_str(alloc, "TooLong");
     }
     match read_formula(alloc, text) {
         Ok(formula) => show(alloc, &formula),
-        Err(refusal) => Ok(format!(in alloc; "{refusal:?}")?),
+        Err(refusal) => format!(in alloc; "{refusal:?}"),
     }
 }
 
-/// Appends what is read of a text that comes in pieces of this length, where that is not what is read of the whole text.
+/// Appends what is read of pieces of this length, where that is not what is read of the whole text.
+fn add_if_other(
+    piece: usize,
+    in_pieces: &str,
+    whole: &str,
+    told: &mut String,
+) -> Result<(), AllocError> {
+    if in_pieces == whole {
+        return Ok(());
+    }
+    write!(told, " in pieces of {piece}: {in_pieces}")
+}
+
+/// As `add_if_other`, of a text that comes in pieces of this length.
 fn add_other(
     alloc: Global,
     text: &[u8],
@@ -51,15 +69,12 @@ fn add_other(
     limit: u64,
     whole: &str,
     told: &mut String,
-) -> Result<(), Fail>
+) -> Result<(), AllocError>
     requires piece { 1 ≤ piece }
     requires limit { limit ≤ 4294967295 }
 {
     let in_pieces = told_in_pieces(alloc, text, piece, limit)?;
-    if in_pieces.as_str() != whole {
-        write!(told, " in pieces of {piece}: {in_pieces}")?;
-    }
-    Ok(())
+    add_if_other(piece, in_pieces.as_str(), whole, told)
 }
 
 /// Appends what is read otherwise of a text's pieces than of the whole text.
@@ -69,7 +84,7 @@ fn add_others(
     limit: u64,
     whole: &str,
     told: &mut String,
-) -> Result<(), Fail>
+) -> Result<(), AllocError>
     requires { limit ≤ 4294967295 }
 {
     for piece in [1, 2, 3, 4096] {
@@ -79,28 +94,26 @@ fn add_others(
 }
 
 /// Appends what is read of a whole text within a limit, and what is read otherwise of its pieces.
-fn add_told(alloc: Global, text: &[u8], limit: u64, told: &mut String) -> Result<(), Fail>
+fn add_told(alloc: Global, text: &[u8], limit: u64, told: &mut String) -> Result<(), AllocError>
     requires { limit ≤ 4294967295 }
 {
     let whole = told_whole(alloc, text, limit)?;
     told.push_str(whole.as_str())?;
     add_others(alloc, text, limit, whole.as_str(), told)?;
-    told.push_str("|")?;
-    Ok(())
+    told.push_str("|")
 }
 
 /// Appends what is told of a text, of at most a hundred bytes, where the limit is below its length, is its length and is above.
-fn add_text(alloc: Global, text: &[u8], told: &mut String) -> Result<(), Fail> {
+fn add_text(alloc: Global, text: &[u8], told: &mut String) -> Result<(), AllocError> {
     let len = text.len().min(100) as u64;
     for limit in [len.saturating_sub(1), len, len + 1] {
         add_told(alloc, text, limit, told)?;
     }
-    told.push_str("\n")?;
-    Ok(())
+    told.push_str("\n")
 }
 
 /// What is told of each text, on a line.
-fn all_told(alloc: Global, texts: &[&[u8]]) -> Result<String, Fail> {
+fn all_told(alloc: Global, texts: &[&[u8]]) -> Result<String, AllocError> {
     let mut all = String::new(alloc);
     for text in texts {
         add_text(alloc, text, &mut all)?;
@@ -156,7 +169,6 @@ TooLong|VarLimit(10)|VarLimit(10)|
 ";
 
 #[test]
-fn pieces_of_any_length_tell_what_the_whole_text_tells(rt: HostRuntime) -> Result<(), Fail> {
-    assert_eq!(rt; all_told(rt.alloc(), &TEXTS)?.as_str(), WANTED);
-    Ok(())
+fn pieces_of_any_length_tell_what_the_whole_text_tells(rt: HostRuntime) {
+    expect(&rt, all_told(rt.alloc(), &TEXTS), WANTED);
 }

@@ -2,11 +2,11 @@
 ghost use Rattle.std.specs.Prelude.{◌≡◌, ◌≤◌, None, false};
 ghost use Rattle.cx_desk.specs.Memory.{outside_of};
 
+use crate::expecting::expect;
 use crate::one_file::{NO_ROOM, desk, start};
 use cx_desk::{MemDesk, Slot};
 use proof_text::ProofGrammar;
 use std::alloc::{AllocError, Global};
-use std::test::Fail;
 use step_text::{SlotText, SpareLists, StepSource, TextRefusal};
 
 /// How many steps a source gave, the refusal that they end with, and the place after them.
@@ -143,9 +143,6 @@ fn others(alloc: Global) -> Result<String, AllocError> {
 }
 
 #[test]
-fn pieces_of_any_length_tell_the_same_but_for_a_byte_behind_the_limit(
-    rt: HostRuntime,
-) -> Result<(), Fail> {
-    assert_eq!(rt; others(rt.alloc())?.as_str(), "");
-    Ok(())
+fn pieces_of_any_length_tell_the_same_but_for_a_byte_behind_the_limit(rt: HostRuntime) {
+    expect(&rt, others(rt.alloc()), "");
 }
