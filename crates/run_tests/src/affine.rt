@@ -2,11 +2,10 @@
 ghost use Rattle.std.specs.Prelude.{◌≤◌};
 
 use crate::desk::{AMPLE, Bounds, Task, run_on_input};
-use crate::expecting::{End, Row, answers, put_other, put_other_statuses};
+use crate::expecting::{End, Row, answers, expect, expect_none, put_other, put_other_statuses};
 use crate::faults::put_faults_of_all;
 use crate::formulas::{SQUARE, TRIANGLE};
 use std::alloc::{AllocError, Global};
-use std::test::Fail;
 
 const AFFINE: &[&str] = &["cxsat", "affine", "f"];
 
@@ -93,19 +92,17 @@ fn put_untold(alloc: Global, others: &mut String, cases: &[Told]) -> Result<(), 
 }
 
 #[test]
-fn solutions_of_parities_are_told(rt: HostRuntime) -> Result<(), Fail> {
+fn solutions_of_parities_are_told(rt: HostRuntime) {
     let mut others = String::new(rt.alloc());
-    put_untold(rt.alloc(), &mut others, &TOLD)?;
-    assert_eq!(rt; others.as_str(), "");
-    Ok(())
+    let written = put_untold(rt.alloc(), &mut others, &TOLD);
+    expect_none(&rt, written, others.as_str());
 }
 
 #[test]
-fn clauses_and_assumptions_have_no_say(rt: HostRuntime) -> Result<(), Fail> {
+fn clauses_and_assumptions_have_no_say(rt: HostRuntime) {
     let mut others = String::new(rt.alloc());
-    put_untold(rt.alloc(), &mut others, &WITH_CLAUSES)?;
-    assert_eq!(rt; others.as_str(), "");
-    Ok(())
+    let written = put_untold(rt.alloc(), &mut others, &WITH_CLAUSES);
+    expect_none(&rt, written, others.as_str());
 }
 
 fn put_point(alloc: Global, text: &mut String, vars: u32) -> Result<(), AllocError> {
@@ -144,11 +141,10 @@ fn put_other_free(alloc: Global, others: &mut String, vars: u32) -> Result<(), A
 }
 
 #[test]
-fn an_answer_of_nine_thousand_bytes_is_told_whole(rt: HostRuntime) -> Result<(), Fail> {
+fn an_answer_of_nine_thousand_bytes_is_told_whole(rt: HostRuntime) {
     let mut others = String::new(rt.alloc());
-    put_other_free(rt.alloc(), &mut others, 700)?;
-    assert_eq!(rt; others.as_str(), "");
-    Ok(())
+    let written = put_other_free(rt.alloc(), &mut others, 700);
+    expect_none(&rt, written, others.as_str());
 }
 
 /// A formula that is refused, the status, and the line that tells why.
@@ -185,11 +181,10 @@ fn put_other_refusals(
 }
 
 #[test]
-fn refused_formulas_have_no_answer(rt: HostRuntime) -> Result<(), Fail> {
+fn refused_formulas_have_no_answer(rt: HostRuntime) {
     let mut others = String::new(rt.alloc());
-    put_other_refusals(rt.alloc(), &mut others, &REFUSED)?;
-    assert_eq!(rt; others.as_str(), "");
-    Ok(())
+    let written = put_other_refusals(rt.alloc(), &mut others, &REFUSED);
+    expect_none(&rt, written, others.as_str());
 }
 
 /// Writes how a run over the formula ends where the Answer port has this room, if not with a write fault and that prefix.
@@ -212,21 +207,28 @@ fn put_other_prefix(
     put_other_end(alloc, others, formula, bounds, end)
 }
 
-#[test]
-fn a_full_answer_port_has_a_prefix(rt: HostRuntime) -> Result<(), Fail> {
-    let mut others = String::new(rt.alloc());
-    put_other_prefix(rt.alloc(), &mut others, TWO, "s AFFINE 2\nt 1")?;
-    put_other_prefix(rt.alloc(), &mut others, TRIANGLE, "s AFFINE NON")?;
-    assert_eq!(rt; others.as_str(), "");
-    Ok(())
+fn put_other_prefixes(alloc: Global, others: &mut String) -> Result<(), AllocError> {
+    put_other_prefix(alloc, others, TWO, "s AFFINE 2\nt 1")?;
+    put_other_prefix(alloc, others, TRIANGLE, "s AFFINE NON")
 }
 
 #[test]
-fn a_formula_comes_from_standard_input(rt: HostRuntime) -> Result<(), Fail> {
+fn a_full_answer_port_has_a_prefix(rt: HostRuntime) {
+    let mut others = String::new(rt.alloc());
+    let written = put_other_prefixes(rt.alloc(), &mut others);
+    expect_none(&rt, written, others.as_str());
+}
+
+/// Whether the solutions of a formula on standard input are told.
+fn is_told_of_input(alloc: Global) -> Result<bool, AllocError> {
     let line = ["cxsat", "affine", "-"];
-    let ended = run_on_input(rt.alloc(), TWO, line.as_slice(), AMPLE)?;
-    assert!(rt; answers(&ended, 0, TWO_TOLD));
-    Ok(())
+    let ended = run_on_input(alloc, TWO, line.as_slice(), AMPLE)?;
+    Ok(answers(&ended, 0, TWO_TOLD))
+}
+
+#[test]
+fn a_formula_comes_from_standard_input(rt: HostRuntime) {
+    expect(&rt, is_told_of_input(rt.alloc()), &true);
 }
 
 const TASKS: [(Task<'static>, u8); 2] = [
@@ -249,11 +251,10 @@ const TASKS: [(Task<'static>, u8); 2] = [
 ];
 
 #[test]
-fn each_call_of_telling_solutions_fails_in_turn(rt: HostRuntime) -> Result<(), Fail> {
+fn each_call_of_telling_solutions_fails_in_turn(rt: HostRuntime) {
     let mut faults = String::new(rt.alloc());
-    put_faults_of_all(rt.alloc(), &mut faults, &TASKS)?;
-    assert_eq!(rt; faults.as_str(), "");
-    Ok(())
+    let written = put_faults_of_all(rt.alloc(), &mut faults, &TASKS);
+    expect_none(&rt, written, faults.as_str());
 }
 
 const LINES: [Row; 9] = [
@@ -269,9 +270,8 @@ const LINES: [Row; 9] = [
 ];
 
 #[test]
-fn words_of_affine_are_refused_or_taken(rt: HostRuntime) -> Result<(), Fail> {
+fn words_of_affine_are_refused_or_taken(rt: HostRuntime) {
     let mut others = String::new(rt.alloc());
-    put_other_statuses(rt.alloc(), &mut others, (TWO, ""), &LINES)?;
-    assert_eq!(rt; others.as_str(), "");
-    Ok(())
+    let written = put_other_statuses(rt.alloc(), &mut others, (TWO, ""), &LINES);
+    expect_none(&rt, written, others.as_str());
 }

@@ -1,11 +1,10 @@
 //! Proofs that are verified, and proofs that are refused at a step for a cause.
 use crate::desk::{AMPLE, Task};
 use crate::expecting::{
-    CHECK, End, Refused, put_other_in_pieces, put_other_refusal, put_other_refusals,
+    CHECK, End, Refused, expect_none, put_other_in_pieces, put_other_refusal, put_other_refusals,
 };
 use crate::formulas::{EMPTY, SQUARE, TRIANGLE};
 use std::alloc::{AllocError, Global};
-use std::test::Fail;
 
 /// A parity of two variables, both of which are assumed.
 const ASSUMING: &str = "p cnf 2 2\nx1 2 0\na 1 2 0\n";
@@ -65,11 +64,10 @@ fn put_all_unverified(
 }
 
 #[test]
-fn proofs_are_verified(rt: HostRuntime) -> Result<(), Fail> {
+fn proofs_are_verified(rt: HostRuntime) {
     let mut others = String::new(rt.alloc());
-    put_all_unverified(rt.alloc(), &mut others, &VERIFIED)?;
-    assert_eq!(rt; others.as_str(), "");
-    Ok(())
+    let written = put_all_unverified(rt.alloc(), &mut others, &VERIFIED);
+    expect_none(&rt, written, others.as_str());
 }
 
 const REFUSED: [Refused; 21] = [
@@ -109,20 +107,18 @@ const REFUSED: [Refused; 21] = [
 ];
 
 #[test]
-fn proofs_are_refused_at_a_step(rt: HostRuntime) -> Result<(), Fail> {
+fn proofs_are_refused_at_a_step(rt: HostRuntime) {
     let mut others = String::new(rt.alloc());
-    put_other_refusals(rt.alloc(), &mut others, CHECK, &REFUSED)?;
-    assert_eq!(rt; others.as_str(), "");
-    Ok(())
+    let written = put_other_refusals(rt.alloc(), &mut others, CHECK, &REFUSED);
+    expect_none(&rt, written, others.as_str());
 }
 
 #[test]
-fn a_variable_may_have_a_great_number(rt: HostRuntime) -> Result<(), Fail> {
+fn a_variable_may_have_a_great_number(rt: HostRuntime) {
     let mut others = String::new(rt.alloc());
     let texts = ("p cnf 1 1\n16777216 0\n", "");
-    put_other_refusal(rt.alloc(), &mut others, CHECK, texts, "step 1 P11", 7)?;
-    assert_eq!(rt; others.as_str(), "");
-    Ok(())
+    let written = put_other_refusal(rt.alloc(), &mut others, CHECK, texts, "step 1 P11", 7);
+    expect_none(&rt, written, others.as_str());
 }
 
 /// Why `check` refuses a prefix of the proof of this many bytes.
@@ -155,9 +151,8 @@ fn put_other_fronts(alloc: Global, others: &mut String, proof: &str) -> Result<(
 }
 
 #[test]
-fn a_front_of_a_proof_is_refused_where_it_ends(rt: HostRuntime) -> Result<(), Fail> {
+fn a_front_of_a_proof_is_refused_where_it_ends(rt: HostRuntime) {
     let mut others = String::new(rt.alloc());
-    put_other_fronts(rt.alloc(), &mut others, "5 2 0 1 2 0\n6 0 5 3 4 0\n")?;
-    assert_eq!(rt; others.as_str(), "");
-    Ok(())
+    let written = put_other_fronts(rt.alloc(), &mut others, "5 2 0 1 2 0\n6 0 5 3 4 0\n");
+    expect_none(&rt, written, others.as_str());
 }

@@ -2,7 +2,7 @@
 ghost use Rattle.std.specs.Prelude.{◌≤◌, ◌^◌};
 
 use crate::desk::{AMPLE, Bounds, Ended, Task, run};
-use crate::expecting::{put_unless, run_task};
+use crate::expecting::{expect, expect_none, put_unless, run_task};
 use crate::pigeons::WIDE;
 use cdcl_core::{SearchOutcome, solve_core};
 use cx_base::Formula;
@@ -10,7 +10,6 @@ use gauss_incremental::ShortFirst;
 use inst_gen::{InstanceKind, planted};
 use log_text::NoLog;
 use std::alloc::{AllocError, Global};
-use std::test::Fail;
 
 /// A kind, a size and a seed, and the lines of their demonstration.
 type Shown = (&'static str, &'static str, &'static str, &'static str);
@@ -77,11 +76,10 @@ fn put_others(alloc: Global, others: &mut String, cases: &[Shown]) -> Result<(),
 }
 
 #[test]
-fn answers_are_shown(rt: HostRuntime) -> Result<(), Fail> {
+fn answers_are_shown(rt: HostRuntime) {
     let mut others = String::new(rt.alloc());
-    put_others(rt.alloc(), &mut others, &SHOWN)?;
-    assert_eq!(rt; others.as_str(), "");
-    Ok(())
+    let written = put_others(rt.alloc(), &mut others, &SHOWN);
+    expect_none(&rt, written, others.as_str());
 }
 
 /// The length of a demonstration's log.
@@ -97,12 +95,16 @@ fn cuts_log_off(alloc: Global, kind: &str) -> Result<bool, AllocError> {
     Ok(cut_off.status == 5 && cut_off.answer().is_empty() && cut_off.proof().len() == proof)
 }
 
+/// As `cuts_log_off`, of each kind.
+fn cut_logs_off(alloc: Global) -> Result<(bool, bool), AllocError> {
+    let even = cuts_log_off(alloc, "even")?;
+    let odd = cuts_log_off(alloc, "odd")?;
+    Ok((even, odd))
+}
+
 #[test]
-fn no_line_stands_before_the_whole_log(rt: HostRuntime) -> Result<(), Fail> {
-    let even = cuts_log_off(rt.alloc(), "even")?;
-    let odd = cuts_log_off(rt.alloc(), "odd")?;
-    assert_eq!(rt; (even, odd), (true, true));
-    Ok(())
+fn no_line_stands_before_the_whole_log(rt: HostRuntime) {
+    expect(&rt, cut_logs_off(rt.alloc()), &(true, true));
 }
 
 /// Whether a demonstration whose lines have little room ends with a write fault after this log.
@@ -117,12 +119,17 @@ fn cuts_lines_off_behind_log(alloc: Global, kind: &str) -> Result<bool, AllocErr
     cuts_lines_off(alloc, kind, whole.proof())
 }
 
+/// As `cuts_lines_off_behind_log`, of each kind.
+fn cut_lines_off_behind_logs(alloc: Global) -> Result<(bool, bool), AllocError> {
+    let even = cuts_lines_off_behind_log(alloc, "even")?;
+    let odd = cuts_lines_off_behind_log(alloc, "odd")?;
+    Ok((even, odd))
+}
+
 #[test]
-fn a_line_that_does_not_fit_stands_behind_the_whole_log(rt: HostRuntime) -> Result<(), Fail> {
-    let even = cuts_lines_off_behind_log(rt.alloc(), "even")?;
-    let odd = cuts_lines_off_behind_log(rt.alloc(), "odd")?;
-    assert_eq!(rt; (even, odd), (true, true));
-    Ok(())
+fn a_line_that_does_not_fit_stands_behind_the_whole_log(rt: HostRuntime) {
+    let found = cut_lines_off_behind_logs(rt.alloc());
+    expect(&rt, found, &(true, true));
 }
 
 /// Whether a demonstration is refused, and writes no line and no log.
@@ -131,13 +138,17 @@ fn refuses(alloc: Global, kind: &str, size: &str) -> Result<bool, AllocError> {
     Ok(refused.status == 2 && refused.answer().is_empty() && refused.proof().is_empty())
 }
 
+/// Whether too few variables are refused, too many, and a kind that there is not.
+fn all_refused(alloc: Global) -> Result<(bool, bool, bool), AllocError> {
+    let few = refuses(alloc, "even", "3")?;
+    let many = refuses(alloc, "even", "2001")?;
+    let unknown = refuses(alloc, "both", "60")?;
+    Ok((few, many, unknown))
+}
+
 #[test]
-fn kinds_and_sizes_are_within_their_bounds(rt: HostRuntime) -> Result<(), Fail> {
-    let few = refuses(rt.alloc(), "even", "3")?;
-    let many = refuses(rt.alloc(), "even", "2001")?;
-    let unknown = refuses(rt.alloc(), "both", "60")?;
-    assert_eq!(rt; (few, many, unknown), (true, true, true));
-    Ok(())
+fn kinds_and_sizes_are_within_their_bounds(rt: HostRuntime) {
+    expect(&rt, all_refused(rt.alloc()), &(true, true, true));
 }
 
 /// Whether the search finds values that meet the formula within this many conflicts.
@@ -154,9 +165,15 @@ fn finds_values(alloc: Global, formula: &Formula, conflicts: u64) -> bool
     }
 }
 
+/// As `finds_values`, of an instance that is planted.
+fn finds_planted_values(alloc: Global, conflicts: u64) -> Result<bool, AllocError>
+    requires { (1 ≤ conflicts) × (conflicts ≤ 10 ^ 18) }
+{
+    let formula = planted(alloc, InstanceKind::Even, 200, 7)?;
+    Ok(finds_values(alloc, &formula, conflicts))
+}
+
 #[test]
-fn planted_values_are_found_within_twenty_thousand_conflicts(rt: HostRuntime) -> Result<(), Fail> {
-    let formula = planted(rt.alloc(), InstanceKind::Even, 200, 7)?;
-    assert!(rt; finds_values(rt.alloc(), &formula, 20_000));
-    Ok(())
+fn planted_values_are_found_within_twenty_thousand_conflicts(rt: HostRuntime) {
+    expect(&rt, finds_planted_values(rt.alloc(), 20_000), &true);
 }

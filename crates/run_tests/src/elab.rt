@@ -1,12 +1,12 @@
 //! Logs that become proofs, and logs that are refused at a step for a cause.
 use crate::desk::{AMPLE, Bounds, Task};
 use crate::expecting::{
-    ELAB, End, Refused, is_answered, put_other, put_other_in_pieces, put_other_refusals,
+    ELAB, End, Refused, expect, expect_none, is_answered, put_other, put_other_in_pieces,
+    put_other_refusals,
 };
 use crate::flow::proves;
 use crate::formulas::{SQUARE, TRIANGLE, TRIANGLE_OF_CLAUSES};
 use std::alloc::{AllocError, Global};
-use std::test::Fail;
 
 /// A log of the four clauses, with no hints.
 pub(crate) const SQUARE_LOG: &str =
@@ -44,27 +44,25 @@ const REFUSED: [Refused; 12] = [
 ];
 
 #[test]
-fn logs_are_refused_at_a_step(rt: HostRuntime) -> Result<(), Fail> {
+fn logs_are_refused_at_a_step(rt: HostRuntime) {
     let mut others = String::new(rt.alloc());
-    put_other_refusals(rt.alloc(), &mut others, ELAB, &REFUSED)?;
-    assert_eq!(rt; others.as_str(), "");
-    Ok(())
+    let written = put_other_refusals(rt.alloc(), &mut others, ELAB, &REFUSED);
+    expect_none(&rt, written, others.as_str());
 }
 
 #[test]
-fn a_log_may_end_behind_a_tautology(rt: HostRuntime) -> Result<(), Fail> {
+fn a_log_may_end_behind_a_tautology(rt: HostRuntime) {
     let task = Task {
         line: ELAB.line,
         formula: CLAUSE,
         second: "o 1 1 2 0\na 5 1 2 -2 0\n",
     };
     let answer = "c step 3 E11\ns NOT ELABORATED\n";
-    assert!(rt; is_answered(rt.alloc(), task, AMPLE, 8, answer)?);
-    Ok(())
+    expect(&rt, is_answered(rt.alloc(), task, AMPLE, 8, answer), &true);
 }
 
 #[test]
-fn a_full_proof_port_is_a_write_fault(rt: HostRuntime) -> Result<(), Fail> {
+fn a_full_proof_port_is_a_write_fault(rt: HostRuntime) {
     let task = Task {
         line: ELAB.line,
         formula: SQUARE,
@@ -77,15 +75,14 @@ fn a_full_proof_port_is_a_write_fault(rt: HostRuntime) -> Result<(), Fail> {
         proof: b"5 2",
     };
     let mut others = String::new(rt.alloc());
-    put_other_in_pieces(
+    let written = put_other_in_pieces(
         rt.alloc(),
         &mut others,
         task,
         Bounds { proof: 3, ..AMPLE },
         end,
-    )?;
-    assert_eq!(rt; others.as_str(), "");
-    Ok(())
+    );
+    expect_none(&rt, written, others.as_str());
 }
 
 /// The four clauses under the numbers that a proof gives them, and what follows them in a log.
@@ -178,11 +175,10 @@ fn put_other_proofs(alloc: Global, others: &mut String, cases: &[Moved]) -> Resu
 }
 
 #[test]
-fn moved_clauses_keep_their_names_in_the_proof(rt: HostRuntime) -> Result<(), Fail> {
+fn moved_clauses_keep_their_names_in_the_proof(rt: HostRuntime) {
     let mut others = String::new(rt.alloc());
-    put_other_proofs(rt.alloc(), &mut others, &MOVED)?;
-    assert_eq!(rt; others.as_str(), "");
-    Ok(())
+    let written = put_other_proofs(rt.alloc(), &mut others, &MOVED);
+    expect_none(&rt, written, others.as_str());
 }
 
 /// Three parities in a cycle, and their sum.
@@ -190,17 +186,16 @@ const MOVED_PARITIES: &str = "o x 1 1 2 0\no x 2 2 3 0\no x 3 1 3 0\nr x 1 2 2 3
     a x 9 -1 3 0 l 2 3 0\nr x 9 4 0\na x 5 0 l 4 1 0\nd x 4 0\ni 7 0 l 5 0\n";
 
 #[test]
-fn moved_parities_keep_their_names_in_the_proof(rt: HostRuntime) -> Result<(), Fail> {
+fn moved_parities_keep_their_names_in_the_proof(rt: HostRuntime) {
     let mut others = String::new(rt.alloc());
-    put_other_proof(
+    let written = put_other_proof(
         rt.alloc(),
         &mut others,
         TRIANGLE,
         MOVED_PARITIES,
         "x 4 -1 3 0 1 2 0\nx 5 0 4 3 0\nx d 4 0\ni 1 0 5 0\n",
-    )?;
-    assert_eq!(rt; others.as_str(), "");
-    Ok(())
+    );
+    expect_none(&rt, written, others.as_str());
 }
 
 /// The four clauses, two of which change places, and two clauses without hints.
@@ -211,12 +206,16 @@ const SEARCHED: &str =
 const SEARCHED_TWICE: &str =
     "o 10 1 2 0\no 11 -1 2 0\no 12 1 -2 0\no 13 -1 -2 0\na 20 2 0\nr 20 12 12 20 10 11 11 10 0\na 21 0\n";
 
+/// Whether the logs without hints become proofs.
+fn both_prove(alloc: Global) -> Result<(bool, bool), AllocError> {
+    let once = proves(alloc, SQUARE, SEARCHED.as_bytes(), AMPLE)?;
+    let twice = proves(alloc, SQUARE, SEARCHED_TWICE.as_bytes(), AMPLE)?;
+    Ok((once, twice))
+}
+
 #[test]
-fn chains_are_found_over_moved_clauses(rt: HostRuntime) -> Result<(), Fail> {
-    let once = proves(rt.alloc(), SQUARE, SEARCHED.as_bytes(), AMPLE)?;
-    let twice = proves(rt.alloc(), SQUARE, SEARCHED_TWICE.as_bytes(), AMPLE)?;
-    assert_eq!(rt; (once, twice), (true, true));
-    Ok(())
+fn chains_are_found_over_moved_clauses(rt: HostRuntime) {
+    expect(&rt, both_prove(rt.alloc()), &(true, true));
 }
 
 const REFUSED_MOVES: [Refused; 12] = [
@@ -245,11 +244,10 @@ const REFUSED_MOVES: [Refused; 12] = [
 ];
 
 #[test]
-fn moves_are_refused_at_a_step(rt: HostRuntime) -> Result<(), Fail> {
+fn moves_are_refused_at_a_step(rt: HostRuntime) {
     let mut others = String::new(rt.alloc());
-    put_other_refusals(rt.alloc(), &mut others, ELAB, &REFUSED_MOVES)?;
-    assert_eq!(rt; others.as_str(), "");
-    Ok(())
+    let written = put_other_refusals(rt.alloc(), &mut others, ELAB, &REFUSED_MOVES);
+    expect_none(&rt, written, others.as_str());
 }
 
 /// What `solve` wrote of the three parities as clauses.
@@ -276,9 +274,8 @@ fn put_other_proofs_of_solved(alloc: Global, others: &mut String) -> Result<(), 
 }
 
 #[test]
-fn moves_at_random_change_no_proof(rt: HostRuntime) -> Result<(), Fail> {
+fn moves_at_random_change_no_proof(rt: HostRuntime) {
     let mut others = String::new(rt.alloc());
-    put_other_proofs_of_solved(rt.alloc(), &mut others)?;
-    assert_eq!(rt; others.as_str(), "");
-    Ok(())
+    let written = put_other_proofs_of_solved(rt.alloc(), &mut others);
+    expect_none(&rt, written, others.as_str());
 }

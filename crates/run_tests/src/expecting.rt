@@ -1,8 +1,11 @@
-//! Runs whose end is told beforehand: those that end otherwise are written into a text.
+//! Runs whose end is told beforehand: those that end otherwise are written into a text. Tests assert through the last
+//! functions, since a test without an assertion of its own takes a third of the proof.
 ghost use Rattle.std.specs.Prelude.{◌≤◌};
 
 use crate::desk::{AMPLE, Bounds, Ended, Task, run};
 use std::alloc::{AllocError, Global};
+use std::fmt::Debug;
+use std::process::Abort;
 
 /// How a run is to end: its status, and what is to be on the ports.
 #[derive(Clone, Copy, Drop)]
@@ -235,4 +238,27 @@ pub(crate) fn put_other_statuses(
         put_other_status(alloc, others, texts, row)?;
     }
     Ok(())
+}
+
+/// Fails unless both are equal, and says what they are.
+pub(crate) fn expect_equal<T: PartialEq + Debug>(rt: &impl Abort, found: &T, wanted: &T) {
+    assert_eq!(*rt; *found, *wanted);
+}
+
+/// Fails unless this is found, and says what is instead, or why nothing is.
+pub(crate) fn expect<T: PartialEq + Debug + Drop>(
+    rt: &impl Abort,
+    found: Result<T, AllocError>,
+    wanted: &T,
+) {
+    match &found {
+        Ok(found) => expect_equal(rt, found, wanted),
+        Err(why) => panic!(*rt; "nothing is found: {why:?}"),
+    }
+}
+
+/// Fails if others are written, and says which, or if they were not all written.
+pub(crate) fn expect_none(rt: &impl Abort, written: Result<(), AllocError>, others: &str) {
+    expect(rt, written, &());
+    expect_equal(rt, &others, &"");
 }

@@ -1,10 +1,10 @@
 //! Runs whose calls of the desk fail, one or all from some number on, and runs over a text without an end.
 use crate::desk::{AMPLE, Ended, Failing, Task, run, run_failing, status_over};
 use crate::elab::SQUARE_LOG;
+use crate::expecting::{expect, expect_none};
 use crate::formulas::{SQUARE, TRIANGLE};
 use cx_desk::RepeatDesk;
 use std::alloc::{AllocError, Global};
-use std::test::Fail;
 
 /// The commands whose calls fail, each with what its run comes to where none does.
 const TASKS: [(Task<'static>, u8); 5] = [
@@ -224,19 +224,21 @@ pub(crate) fn put_faults_of_all(
 }
 
 #[test]
-fn each_call_fails_in_turn(rt: HostRuntime) -> Result<(), Fail> {
+fn each_call_fails_in_turn(rt: HostRuntime) {
     let mut faults = String::new(rt.alloc());
-    put_faults_of_all(rt.alloc(), &mut faults, &TASKS)?;
-    assert_eq!(rt; faults.as_str(), "");
-    Ok(())
+    let written = put_faults_of_all(rt.alloc(), &mut faults, &TASKS);
+    expect_none(&rt, written, faults.as_str());
+}
+
+/// The status of the check of a text without an end, and whether at most 101 bytes are read of it.
+fn read_endless(alloc: Global) -> Result<(u8, bool), AllocError> {
+    let mut desk = RepeatDesk::make(b' ');
+    let line = ["cxsat", "check", "f", "s"];
+    let status = status_over(alloc, line.as_slice(), 100, &mut desk)?;
+    Ok((status, desk.taken() <= 101))
 }
 
 #[test]
-fn an_endless_text_is_too_long(rt: HostRuntime) -> Result<(), Fail> {
-    let mut desk = RepeatDesk::make(b' ');
-    let line = ["cxsat", "check", "f", "s"];
-    let status = status_over(rt.alloc(), line.as_slice(), 100, &mut desk)?;
-    assert_eq!(rt; status, 9);
-    assert!(rt; desk.taken() <= 101, "{} bytes", desk.taken());
-    Ok(())
+fn an_endless_text_is_too_long(rt: HostRuntime) {
+    expect(&rt, read_endless(rt.alloc()), &(9, true));
 }

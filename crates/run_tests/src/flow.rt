@@ -3,10 +3,9 @@ ghost use Rattle.std.specs.Prelude.{◌≤◌};
 
 use crate::desk::{AMPLE, Bounds, Ended, run};
 use crate::elab::{SQUARE_LOG, SQUARE_LOG_WITH_IDLE_STEPS};
-use crate::expecting::{PIECES, in_pieces};
+use crate::expecting::{PIECES, expect, in_pieces};
 use crate::formulas::{SQUARE, TRIANGLE, TRIANGLE_OF_CLAUSES};
 use std::alloc::{AllocError, Global};
-use std::test::Fail;
 
 // Made outside of this repository: values of eight variables were drawn, then five parities of three variables, with the
 // sign that these values meet, and twelve clauses of three literals that they meet. The sum of the first, second and
@@ -70,12 +69,16 @@ fn proves_in_pieces(alloc: Global, formula: &str, log: &str) -> Result<bool, All
     Ok(true)
 }
 
+/// Whether the square's log becomes a proof, and whether its log with idle steps does.
+fn both_prove(alloc: Global) -> Result<(bool, bool), AllocError> {
+    let plain = proves_in_pieces(alloc, SQUARE, SQUARE_LOG)?;
+    let with_idle_steps = proves_in_pieces(alloc, SQUARE, SQUARE_LOG_WITH_IDLE_STEPS)?;
+    Ok((plain, with_idle_steps))
+}
+
 #[test]
-fn a_log_becomes_a_proof(rt: HostRuntime) -> Result<(), Fail> {
-    let plain = proves_in_pieces(rt.alloc(), SQUARE, SQUARE_LOG)?;
-    let with_idle_steps = proves_in_pieces(rt.alloc(), SQUARE, SQUARE_LOG_WITH_IDLE_STEPS)?;
-    assert_eq!(rt; (plain, with_idle_steps), (true, true));
-    Ok(())
+fn a_log_becomes_a_proof(rt: HostRuntime) {
+    expect(&rt, both_prove(rt.alloc()), &(true, true));
 }
 
 /// Whether the formula is refuted, and its log becomes a proof.
@@ -93,20 +96,20 @@ fn is_refuted_with(alloc: Global, front: &str, rest: &str) -> Result<bool, Alloc
     is_refuted(alloc, formula.as_str())
 }
 
-#[test]
-fn refutations_are_verified(rt: HostRuntime) -> Result<(), Fail> {
-    let alloc = rt.alloc();
+/// Which formulas are refuted.
+fn all_refuted(alloc: Global) -> Result<[bool; 6], AllocError> {
     let triangle = is_refuted(alloc, TRIANGLE)? && is_refuted(alloc, TRIANGLE_OF_CLAUSES)?;
     let square = is_refuted(alloc, SQUARE)?;
     let circle = is_refuted(alloc, CIRCLE)?;
     let odd = is_refuted_with(alloc, PLANTED, ODD)?;
     let hidden = is_refuted_with(alloc, PLANTED, HIDDEN)?;
     let among_many = is_refuted(alloc, SQUARE_AMONG_MANY)?;
-    assert_eq!(rt;
-        [triangle, square, circle, odd, hidden, among_many],
-        [true; 6]
-    );
-    Ok(())
+    Ok([triangle, square, circle, odd, hidden, among_many])
+}
+
+#[test]
+fn refutations_are_verified(rt: HostRuntime) {
+    expect(&rt, all_refuted(rt.alloc()), &[true; 6]);
 }
 
 /// The status of the judgement of an answer, if the search ended with values.
@@ -126,7 +129,6 @@ fn is_met(alloc: Global, formula: &str) -> Result<bool, AllocError> {
 }
 
 #[test]
-fn printed_values_are_right(rt: HostRuntime) -> Result<(), Fail> {
-    assert!(rt; is_met(rt.alloc(), PLANTED)?);
-    Ok(())
+fn printed_values_are_right(rt: HostRuntime) {
+    expect(&rt, is_met(rt.alloc(), PLANTED), &true);
 }

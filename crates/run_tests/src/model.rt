@@ -1,7 +1,7 @@
 //! Printed values that are right, and values that are refused for a cause.
 use crate::desk::{AMPLE, Task};
-use crate::expecting::{End, MODEL, Refused, put_other_in_pieces, put_other_refusals};
-use std::test::Fail;
+use crate::expecting::{End, MODEL, Refused, expect_none, put_other_in_pieces, put_other_refusals};
+use std::alloc::{AllocError, Global};
 
 /// A parity and a clause that the values 1 and -2 alone meet.
 const FORMULA: &str = "p cnf 2 2\nx1 2 0\n1 0\n";
@@ -19,8 +19,7 @@ const REFUSED: [Refused; 6] = [
     ),
 ];
 
-#[test]
-fn printed_values(rt: HostRuntime) -> Result<(), Fail> {
+fn put_others(alloc: Global, others: &mut String) -> Result<(), AllocError> {
     let right = Task {
         line: MODEL.line,
         formula: FORMULA,
@@ -32,9 +31,13 @@ fn printed_values(rt: HostRuntime) -> Result<(), Fail> {
         message: "",
         proof: b"",
     };
+    put_other_in_pieces(alloc, others, right, AMPLE, end)?;
+    put_other_refusals(alloc, others, MODEL, &REFUSED)
+}
+
+#[test]
+fn printed_values(rt: HostRuntime) {
     let mut others = String::new(rt.alloc());
-    put_other_in_pieces(rt.alloc(), &mut others, right, AMPLE, end)?;
-    put_other_refusals(rt.alloc(), &mut others, MODEL, &REFUSED)?;
-    assert_eq!(rt; others.as_str(), "");
-    Ok(())
+    let written = put_others(rt.alloc(), &mut others);
+    expect_none(&rt, written, others.as_str());
 }

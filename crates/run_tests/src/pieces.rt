@@ -2,9 +2,9 @@
 ghost use Rattle.std.specs.Prelude.{◌≤◌};
 
 use crate::desk::{AMPLE, Bounds, Ended, run};
+use crate::expecting::expect;
 use crate::formulas::{EMPTY, SQUARE, TRIANGLE};
 use std::alloc::{AllocError, Global};
-use std::test::Fail;
 
 const CHECK: &[&str] = &["cxsat", "check", "f", "s"];
 
@@ -126,11 +126,11 @@ const ROWS: [Row; 9] = [
 ];
 
 #[test]
-fn pieces_of_any_length_end_the_same(rt: HostRuntime) -> Result<(), Fail> {
+fn pieces_of_any_length_end_the_same(rt: HostRuntime) {
     let wanted =
         b"0 s VERIFIED\n7 c step 2 P0 at byte 22\ns NOT VERIFIED\n7 c step 1 P0 at byte 8\ns NOT VERIFIED\n8 c step 4 E5\ns NOT ELABORATED\n20 s UNSATISFIABLE\n10 s SATISFIABLE\nv 1 2 0\n3 error: formula F3 at byte 18\n10 s SATISFIABLE\nv 1 -2 0\n9 error: limit L2 formula\n".as_slice();
-    assert_eq!(rt; told_so(rt.alloc(), &ROWS, Shown::End, wanted)?, [true; 4]);
-    Ok(())
+    let told = told_so(rt.alloc(), &ROWS, Shown::End, wanted);
+    expect(&rt, told, &[true; 4]);
 }
 
 const ROWS_WITH_MORE: [Row; 10] = [
@@ -147,12 +147,11 @@ const ROWS_WITH_MORE: [Row; 10] = [
 ];
 
 #[test]
-fn what_stands_behind_the_last_step_counts(rt: HostRuntime) -> Result<(), Fail> {
+fn what_stands_behind_the_last_step_counts(rt: HostRuntime) {
     let wanted =
         b"0 s VERIFIED\n9 error: limit L2 formula\n0 s VERIFIED\n9 error: limit L2 second\n7 c step 1 P0 at byte 2\ns NOT VERIFIED\n9 error: limit L2 second\n0 s ELABORATED\n9 error: limit L2 second\n8 c step 1 E0 at byte 0\ns NOT ELABORATED\n9 error: limit L2 second\n".as_slice();
-    let told = told_so(rt.alloc(), &ROWS_WITH_MORE, Shown::End, wanted)?;
-    assert_eq!(rt; told, [true; 4]);
-    Ok(())
+    let told = told_so(rt.alloc(), &ROWS_WITH_MORE, Shown::End, wanted);
+    expect(&rt, told, &[true; 4]);
 }
 
 const PRINTED: [Row; 3] = [
@@ -172,11 +171,8 @@ const PRINTED: [Row; 3] = [
 ];
 
 #[test]
-fn pieces_of_any_length_are_printed_the_same(rt: HostRuntime) -> Result<(), Fail> {
+fn pieces_of_any_length_are_printed_the_same(rt: HostRuntime) {
     let wanted = b"5 2 0 1 2 0\n6 0 5 3 4 0\n5 2 0 1 2 0\n2 0 1 0\n".as_slice();
-    assert_eq!(rt;
-        told_so(rt.alloc(), &PRINTED, Shown::Proof, wanted)?,
-        [true; 4]
-    );
-    Ok(())
+    let told = told_so(rt.alloc(), &PRINTED, Shown::Proof, wanted);
+    expect(&rt, told, &[true; 4]);
 }

@@ -1,8 +1,8 @@
 //! Pigeons that have one hole too few: formulas that no values meet, and that take many conflicts.
 use crate::desk::{AMPLE, Bounds, Ended, run};
+use crate::expecting::expect;
 use crate::flow::proves;
 use std::alloc::{AllocError, Global};
-use std::test::Fail;
 
 /// Room for a log of some thousand conflicts, in large pieces.
 pub(crate) const WIDE: Bounds = Bounds {
@@ -93,9 +93,8 @@ fn refutes_or_spends(alloc: Global, holes: u8) -> Result<bool, AllocError> {
 }
 
 #[test]
-fn eight_pigeons_are_refuted_or_the_budget_is_spent(rt: HostRuntime) -> Result<(), Fail> {
-    assert!(rt; refutes_or_spends(rt.alloc(), 7)?);
-    Ok(())
+fn eight_pigeons_are_refuted_or_the_budget_is_spent(rt: HostRuntime) {
+    expect(&rt, refutes_or_spends(rt.alloc(), 7), &true);
 }
 
 /// The status of a search over this many holes, with a budget that is not spent.
@@ -107,7 +106,6 @@ fn status_over(alloc: Global, holes: u8) -> Result<u8, AllocError> {
 }
 
 #[test]
-fn six_pigeons_are_refuted(rt: HostRuntime) -> Result<(), Fail> {
-    assert_eq!(rt; status_over(rt.alloc(), 5)?, 20);
-    Ok(())
+fn six_pigeons_are_refuted(rt: HostRuntime) {
+    expect(&rt, status_over(rt.alloc(), 5), &20);
 }

@@ -1,9 +1,8 @@
 //! Formulas, texts and words that are refused, each with its status, place and line.
 use crate::desk::{AMPLE, Bounds, Task};
-use crate::expecting::{CHECK, End, Row, put_other_in_pieces, put_other_statuses};
+use crate::expecting::{CHECK, End, Row, expect_none, put_other_in_pieces, put_other_statuses};
 use crate::formulas::EMPTY;
 use std::alloc::{AllocError, Global};
-use std::test::Fail;
 
 /// A formula, the status with which it is refused, and the line that tells why.
 type Offence = (&'static str, u8, &'static str);
@@ -79,11 +78,10 @@ fn put_other_offences(
 }
 
 #[test]
-fn formulas_are_refused_at_their_first_offence(rt: HostRuntime) -> Result<(), Fail> {
+fn formulas_are_refused_at_their_first_offence(rt: HostRuntime) {
     let mut others = String::new(rt.alloc());
-    put_other_offences(rt.alloc(), &mut others, &OFFENCES)?;
-    assert_eq!(rt; others.as_str(), "");
-    Ok(())
+    let written = put_other_offences(rt.alloc(), &mut others, &OFFENCES);
+    expect_none(&rt, written, others.as_str());
 }
 
 /// Writes how a check of a proof of 12 bytes ends within these bounds, if it is not so.
@@ -129,11 +127,10 @@ fn put_others_bounded(alloc: Global, others: &mut String) -> Result<(), AllocErr
 }
 
 #[test]
-fn texts_over_the_limit_and_a_full_answer_port_are_refused(rt: HostRuntime) -> Result<(), Fail> {
+fn texts_over_the_limit_and_a_full_answer_port_are_refused(rt: HostRuntime) {
     let mut others = String::new(rt.alloc());
-    put_others_bounded(rt.alloc(), &mut others)?;
-    assert_eq!(rt; others.as_str(), "");
-    Ok(())
+    let written = put_others_bounded(rt.alloc(), &mut others);
+    expect_none(&rt, written, others.as_str());
 }
 
 const LINES: [Row; 10] = [
@@ -150,9 +147,8 @@ const LINES: [Row; 10] = [
 ];
 
 #[test]
-fn words_are_refused_or_taken(rt: HostRuntime) -> Result<(), Fail> {
+fn words_are_refused_or_taken(rt: HostRuntime) {
     let mut others = String::new(rt.alloc());
-    put_other_statuses(rt.alloc(), &mut others, (EMPTY, "2 0 1 0\n"), &LINES)?;
-    assert_eq!(rt; others.as_str(), "");
-    Ok(())
+    let written = put_other_statuses(rt.alloc(), &mut others, (EMPTY, "2 0 1 0\n"), &LINES);
+    expect_none(&rt, written, others.as_str());
 }

@@ -1,9 +1,9 @@
 //! The search follows its schedule, as its log shows: clauses are deleted just after the conflicts where a restart is due
 //! and many are learned.
 use crate::desk::{Ended, run};
+use crate::expecting::expect;
 use crate::pigeons::{WIDE, pigeonholes};
 use std::alloc::{AllocError, Global};
-use std::test::Fail;
 
 /// Counted conflicts, in hundreds up to 50, after which a restart is due: the sums of the sequence of Luby, Sinclair and
 /// Zuckerman, 1 1 2 1 1 2 4 1 1 2 1 1 2 4 8 and so on.
@@ -119,7 +119,6 @@ fn told_of_pigeons(alloc: Global, holes: u8) -> Result<(bool, u64, bool), AllocE
 }
 
 #[test]
-fn clauses_are_deleted_where_many_are_learned_at_a_restart(rt: HostRuntime) -> Result<(), Fail> {
-    assert_eq!(rt; told_of_pigeons(rt.alloc(), 10)?, (true, 5000, true));
-    Ok(())
+fn clauses_are_deleted_where_many_are_learned_at_a_restart(rt: HostRuntime) {
+    expect(&rt, told_of_pigeons(rt.alloc(), 10), &(true, 5000, true));
 }

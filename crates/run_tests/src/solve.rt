@@ -3,12 +3,11 @@ ghost use Rattle.std.specs.Prelude.{◌≤◌};
 
 use crate::desk::{AMPLE, Bounds, Ended, Task, run};
 use crate::expecting::{
-    End, PIECES, Row, answers, in_pieces, is_answered, put_other_in_pieces, put_other_statuses,
-    put_unless, run_task,
+    End, PIECES, Row, answers, expect, expect_none, in_pieces, is_answered, put_other_in_pieces,
+    put_other_statuses, put_unless, run_task,
 };
 use crate::formulas::{EMPTY, SQUARE, TRIANGLE, TRIANGLE_OF_CLAUSES};
 use std::alloc::{AllocError, Global};
-use std::test::Fail;
 
 /// A parity and a clause that give variable 1 true and variable 2 false.
 const CHAIN: &str = "p cnf 2 2\nx1 2 0\n1 0\n";
@@ -213,11 +212,10 @@ const ASSUMED: [Case; 10] = [
 ];
 
 #[test]
-fn assumed_literals_that_fail_are_told(rt: HostRuntime) -> Result<(), Fail> {
+fn assumed_literals_that_fail_are_told(rt: HostRuntime) {
     let mut others = String::new(rt.alloc());
-    put_other_answers(rt.alloc(), &mut others, &ASSUMED)?;
-    assert_eq!(rt; others.as_str(), "");
-    Ok(())
+    let written = put_other_answers(rt.alloc(), &mut others, &ASSUMED);
+    expect_none(&rt, written, others.as_str());
 }
 
 /// Formulas that propagation refutes at level 0, with assumptions that have no part in it, also where one is false there.
@@ -308,13 +306,10 @@ const REFUTED_ALONE: [Case; 13] = [
 ];
 
 #[test]
-fn no_assumed_literal_fails_where_the_formula_is_refuted_without_a_decision(
-    rt: HostRuntime,
-) -> Result<(), Fail> {
+fn no_assumed_literal_fails_where_the_formula_is_refuted_without_a_decision(rt: HostRuntime) {
     let mut others = String::new(rt.alloc());
-    put_other_answers(rt.alloc(), &mut others, &REFUTED_ALONE)?;
-    assert_eq!(rt; others.as_str(), "");
-    Ok(())
+    let written = put_other_answers(rt.alloc(), &mut others, &REFUTED_ALONE);
+    expect_none(&rt, written, others.as_str());
 }
 
 /// Formulas of which some assumed literals fail, and others that are decided before these have no part in it.
@@ -392,11 +387,10 @@ const PARTLY_FAILED: [Case; 10] = [
 ];
 
 #[test]
-fn what_a_contradiction_does_not_rest_on_does_not_fail(rt: HostRuntime) -> Result<(), Fail> {
+fn what_a_contradiction_does_not_rest_on_does_not_fail(rt: HostRuntime) {
     let mut others = String::new(rt.alloc());
-    put_other_answers(rt.alloc(), &mut others, &PARTLY_FAILED)?;
-    assert_eq!(rt; others.as_str(), "");
-    Ok(())
+    let written = put_other_answers(rt.alloc(), &mut others, &PARTLY_FAILED);
+    expect_none(&rt, written, others.as_str());
 }
 
 /// The sign of a variable that is assumed: by turns true and false.
@@ -442,22 +436,25 @@ fn assumes_many(alloc: Global, clause: &str, status: u8, answer: &str) -> Result
     is_answered(alloc, task, bounds, status, answer)
 }
 
-#[test]
-fn many_literals_are_assumed(rt: HostRuntime) -> Result<(), Fail> {
-    let values = assumed_values(rt.alloc(), 5_000)?;
-    let met = assumes_many(rt.alloc(), "1 5000 0", 10, values.as_str())?;
+/// Whether the values are told where a clause is met, and the literals that fail where one is not.
+fn both_assume_many(alloc: Global) -> Result<(bool, bool), AllocError> {
+    let values = assumed_values(alloc, 5_000)?;
+    let met = assumes_many(alloc, "1 5000 0", 10, values.as_str())?;
     let failed = "s UNSATISFIABLE\nc failed 1 -5000 0\n";
-    let unmet = assumes_many(rt.alloc(), "-1 5000 0", 20, failed)?;
-    assert_eq!(rt; (met, unmet), (true, true));
-    Ok(())
+    let unmet = assumes_many(alloc, "-1 5000 0", 20, failed)?;
+    Ok((met, unmet))
 }
 
 #[test]
-fn values_are_printed_where_there_are_any(rt: HostRuntime) -> Result<(), Fail> {
+fn many_literals_are_assumed(rt: HostRuntime) {
+    expect(&rt, both_assume_many(rt.alloc()), &(true, true));
+}
+
+#[test]
+fn values_are_printed_where_there_are_any(rt: HostRuntime) {
     let mut others = String::new(rt.alloc());
-    put_other_answers(rt.alloc(), &mut others, &ANSWERS)?;
-    assert_eq!(rt; others.as_str(), "");
-    Ok(())
+    let written = put_other_answers(rt.alloc(), &mut others, &ANSWERS);
+    expect_none(&rt, written, others.as_str());
 }
 
 /// Whether a conflict is marked in a log.
@@ -473,25 +470,36 @@ fn marks(alloc: Global, formula: &str) -> Result<bool, AllocError> {
     Ok(has_mark(solved.proof()))
 }
 
-#[test]
-fn tidying_gives_the_same_answers(rt: HostRuntime) -> Result<(), Fail> {
-    let mut others = String::new(rt.alloc());
-    for case in &ANSWERS {
-        put_other_tidied(rt.alloc(), &mut others, case)?;
+/// As `put_other_tidied`, of each of the cases.
+fn put_others_tidied(alloc: Global, others: &mut String, cases: &[Case]) -> Result<(), AllocError> {
+    for case in cases {
+        put_other_tidied(alloc, others, case)?;
     }
-    for case in &ASSUMED {
-        put_other_tidied(rt.alloc(), &mut others, case)?;
-    }
-    assert_eq!(rt; others.as_str(), "");
     Ok(())
 }
 
+fn put_all_tidied(alloc: Global, others: &mut String) -> Result<(), AllocError> {
+    put_others_tidied(alloc, others, &ANSWERS)?;
+    put_others_tidied(alloc, others, &ASSUMED)
+}
+
 #[test]
-fn conflicts_are_marked_behind_decisions_alone(rt: HostRuntime) -> Result<(), Fail> {
-    let forced = marks(rt.alloc(), TRIANGLE)?;
-    let decided = marks(rt.alloc(), FOUR)?;
-    assert_eq!(rt; (forced, decided), (false, true));
-    Ok(())
+fn tidying_gives_the_same_answers(rt: HostRuntime) {
+    let mut others = String::new(rt.alloc());
+    let written = put_all_tidied(rt.alloc(), &mut others);
+    expect_none(&rt, written, others.as_str());
+}
+
+/// Whether a conflict is marked where all is forced, and where there are decisions.
+fn both_mark(alloc: Global) -> Result<(bool, bool), AllocError> {
+    let forced = marks(alloc, TRIANGLE)?;
+    let decided = marks(alloc, FOUR)?;
+    Ok((forced, decided))
+}
+
+#[test]
+fn conflicts_are_marked_behind_decisions_alone(rt: HostRuntime) {
+    expect(&rt, both_mark(rt.alloc()), &(false, true));
 }
 
 /// The originals of the triangle of clauses, and the parities that are recovered from them.
@@ -506,10 +514,9 @@ fn begins(alloc: Global, formula: &str, front: &[u8]) -> Result<(bool, bool), Al
 }
 
 #[test]
-fn recovered_parities_are_told_behind_the_originals(rt: HostRuntime) -> Result<(), Fail> {
-    let begun = begins(rt.alloc(), TRIANGLE_OF_CLAUSES, RECOVERED)?;
-    assert_eq!(rt; begun, (true, false));
-    Ok(())
+fn recovered_parities_are_told_behind_the_originals(rt: HostRuntime) {
+    let begun = begins(rt.alloc(), TRIANGLE_OF_CLAUSES, RECOVERED);
+    expect(&rt, begun, &(true, false));
 }
 
 /// Runs `solve` of the triangle with this room for its log, which is too little: just that prefix of
@@ -556,23 +563,22 @@ fn put_other_fronts_of_triangle(alloc: Global, others: &mut String) -> Result<()
 }
 
 #[test]
-fn a_full_log_is_a_write_fault(rt: HostRuntime) -> Result<(), Fail> {
+fn a_full_log_is_a_write_fault(rt: HostRuntime) {
     let mut others = String::new(rt.alloc());
-    put_other_fronts_of_triangle(rt.alloc(), &mut others)?;
-    assert_eq!(rt; others.as_str(), "");
-    Ok(())
+    let written = put_other_fronts_of_triangle(rt.alloc(), &mut others);
+    expect_none(&rt, written, others.as_str());
 }
 
 #[test]
-fn a_full_answer_port_is_a_write_fault(rt: HostRuntime) -> Result<(), Fail> {
+fn a_full_answer_port_is_a_write_fault(rt: HostRuntime) {
     let task = Task {
         line: SOLVE,
         formula: CHAIN,
         second: "",
     };
     let bounds = Bounds { answer: 3, ..AMPLE };
-    assert!(rt; is_answered(rt.alloc(), task, bounds, 5, "s S")?);
-    Ok(())
+    let is_so = is_answered(rt.alloc(), task, bounds, 5, "s S");
+    expect(&rt, is_so, &true);
 }
 
 const LINES: [Row; 8] = [
@@ -595,9 +601,8 @@ const LINES: [Row; 8] = [
 ];
 
 #[test]
-fn words_and_texts_are_within_their_bounds(rt: HostRuntime) -> Result<(), Fail> {
+fn words_and_texts_are_within_their_bounds(rt: HostRuntime) {
     let mut others = String::new(rt.alloc());
-    put_other_statuses(rt.alloc(), &mut others, (CHAIN, ""), &LINES)?;
-    assert_eq!(rt; others.as_str(), "");
-    Ok(())
+    let written = put_other_statuses(rt.alloc(), &mut others, (CHAIN, ""), &LINES);
+    expect_none(&rt, written, others.as_str());
 }

@@ -1,9 +1,9 @@
 //! `solve --inprocess` writes a tidy line for each restart, in time for the next mark.
 use crate::desk::run;
+use crate::expecting::expect;
 use crate::pigeons::{WIDE, pigeonholes};
 use crate::schedule::RESTARTS;
 use std::alloc::{AllocError, Global};
-use std::test::Fail;
 
 /// The marks and the tidy lines of a log up to some line.
 #[derive(Drop)]
@@ -90,7 +90,6 @@ fn tidied_pigeons(alloc: Global) -> Result<(u8, bool, u64, usize), AllocError> {
 }
 
 #[test]
-fn each_restart_has_its_tidy_line(rt: HostRuntime) -> Result<(), Fail> {
-    assert_eq!(rt; tidied_pigeons(rt.alloc())?, (0, true, 1000, 6));
-    Ok(())
+fn each_restart_has_its_tidy_line(rt: HostRuntime) {
+    expect(&rt, tidied_pigeons(rt.alloc()), &(0, true, 1000, 6));
 }

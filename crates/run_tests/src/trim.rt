@@ -1,11 +1,10 @@
 //! Proofs that are trimmed, and proofs that are refused at a step for a cause.
 use crate::desk::{AMPLE, Bounds, Task};
 use crate::expecting::{
-    End, Judging, Refused, is_answered, put_other, put_other_refusals, run_task,
+    End, Judging, Refused, expect_none, is_answered, put_other, put_other_refusals, run_task,
 };
 use crate::formulas::SQUARE;
 use std::alloc::{AllocError, Global};
-use std::test::Fail;
 
 const TRIM: Judging = Judging {
     line: &["cxsat", "trim", "f", "s", "p"],
@@ -108,11 +107,10 @@ fn put_all_untrimmed(
 }
 
 #[test]
-fn proofs_are_trimmed(rt: HostRuntime) -> Result<(), Fail> {
+fn proofs_are_trimmed(rt: HostRuntime) {
     let mut others = String::new(rt.alloc());
-    put_all_untrimmed(rt.alloc(), &mut others, &TRIMMED)?;
-    assert_eq!(rt; others.as_str(), "");
-    Ok(())
+    let written = put_all_untrimmed(rt.alloc(), &mut others, &TRIMMED);
+    expect_none(&rt, written, others.as_str());
 }
 
 const REFUSED: [Refused; 4] = [
@@ -127,11 +125,10 @@ const REFUSED: [Refused; 4] = [
 ];
 
 #[test]
-fn of_a_refused_proof_nothing_is_written(rt: HostRuntime) -> Result<(), Fail> {
+fn of_a_refused_proof_nothing_is_written(rt: HostRuntime) {
     let mut others = String::new(rt.alloc());
-    put_other_refusals(rt.alloc(), &mut others, TRIM, &REFUSED)?;
-    assert_eq!(rt; others.as_str(), "");
-    Ok(())
+    let written = put_other_refusals(rt.alloc(), &mut others, TRIM, &REFUSED);
+    expect_none(&rt, written, others.as_str());
 }
 
 /// The lines of a core, and how many constraints of each kind were passed in the formula.
@@ -208,18 +205,22 @@ fn put_met(
     Ok(())
 }
 
-#[test]
-fn cores_are_unsatisfiable_by_themselves(rt: HostRuntime) -> Result<(), Fail> {
-    let mut others = String::new(rt.alloc());
-    for case in &TRIMMED {
-        put_met(rt.alloc(), &mut others, *case)?;
+fn put_all_met(alloc: Global, others: &mut String, cases: &[Trimming]) -> Result<(), AllocError> {
+    for case in cases {
+        put_met(alloc, others, *case)?;
     }
-    assert_eq!(rt; others.as_str(), "");
     Ok(())
 }
 
 #[test]
-fn a_long_proof_is_refused_before_it_is_trimmed(rt: HostRuntime) -> Result<(), Fail> {
+fn cores_are_unsatisfiable_by_themselves(rt: HostRuntime) {
+    let mut others = String::new(rt.alloc());
+    let written = put_all_met(rt.alloc(), &mut others, &TRIMMED);
+    expect_none(&rt, written, others.as_str());
+}
+
+#[test]
+fn a_long_proof_is_refused_before_it_is_trimmed(rt: HostRuntime) {
     let task = Task {
         line: TRIM.line,
         formula: SQUARE,
@@ -232,19 +233,18 @@ fn a_long_proof_is_refused_before_it_is_trimmed(rt: HostRuntime) -> Result<(), F
         proof: b"",
     };
     let mut others = String::new(rt.alloc());
-    put_other(
+    let written = put_other(
         rt.alloc(),
         &mut others,
         task,
         Bounds { limit: 40, ..AMPLE },
         end,
-    )?;
-    assert_eq!(rt; others.as_str(), "");
-    Ok(())
+    );
+    expect_none(&rt, written, others.as_str());
 }
 
 #[test]
-fn a_full_port_is_a_write_fault(rt: HostRuntime) -> Result<(), Fail> {
+fn a_full_port_is_a_write_fault(rt: HostRuntime) {
     let task = Task {
         line: TRIM.line,
         formula: SQUARE,
@@ -257,15 +257,14 @@ fn a_full_port_is_a_write_fault(rt: HostRuntime) -> Result<(), Fail> {
         proof: b"5 2",
     };
     let mut others = String::new(rt.alloc());
-    put_other(
+    let written = put_other(
         rt.alloc(),
         &mut others,
         task,
         Bounds { proof: 3, ..AMPLE },
         end,
-    )?;
-    assert_eq!(rt; others.as_str(), "");
-    Ok(())
+    );
+    expect_none(&rt, written, others.as_str());
 }
 
 /// Command lines whose names for `trim` are not plain.
@@ -292,12 +291,16 @@ fn put_taken(alloc: Global, others: &mut String, line: &[&str]) -> Result<(), Al
     Ok(())
 }
 
-#[test]
-fn three_names_are_asked_for(rt: HostRuntime) -> Result<(), Fail> {
-    let mut others = String::new(rt.alloc());
-    for line in &UNPLAIN {
-        put_taken(rt.alloc(), &mut others, line)?;
+fn put_all_taken(alloc: Global, others: &mut String, lines: &[&[&str]]) -> Result<(), AllocError> {
+    for line in lines {
+        put_taken(alloc, others, line)?;
     }
-    assert_eq!(rt; others.as_str(), "");
     Ok(())
+}
+
+#[test]
+fn three_names_are_asked_for(rt: HostRuntime) {
+    let mut others = String::new(rt.alloc());
+    let written = put_all_taken(rt.alloc(), &mut others, &UNPLAIN);
+    expect_none(&rt, written, others.as_str());
 }

@@ -2,12 +2,12 @@
 ghost use Rattle.std.specs.Prelude.{◌≤◌};
 ghost use Rattle.cx_base.specs.declared.literal.TheConstants.{MAX_VARIABLE};
 
+use crate::expecting::expect;
 use cdcl_core::{SearchOutcome, solve_core};
 use cx_base::{Formula, FormulaBuilder, Lit, Var};
 use gauss_incremental::ShortFirst;
 use log_text::NoLog;
 use std::alloc::{AllocError, Global};
-use std::test::Fail;
 
 /// A clause that makes variable 2 true, and a parity that makes variable 1 true with it.
 fn two_and_one(alloc: Global, vars: u32) -> Result<Formula, AllocError>
@@ -46,19 +46,22 @@ fn found(alloc: Global, formula: &Formula) -> Result<String, AllocError> {
     }
 }
 
-/// What it finds where the header counts this many variables.
-fn found_among(alloc: Global, vars: u32) -> Result<String, AllocError>
+/// Whether it finds these values where the header counts this many variables.
+fn is_found_among(alloc: Global, vars: u32, wanted: &str) -> Result<bool, AllocError>
     requires { vars ≤ MAX_VARIABLE }
 {
     let formula = two_and_one(alloc, vars)?;
-    found(alloc, &formula)
+    Ok(found(alloc, &formula)?.as_str() == wanted)
+}
+
+/// Whether the values are found where no variable is unused, and where many are.
+fn both_found(alloc: Global) -> Result<(bool, bool), AllocError> {
+    let none_unused = is_found_among(alloc, 2, "2 values, true: 1 2")?;
+    let many_unused = is_found_among(alloc, 2_000_000, "2000000 values, true: 1 2")?;
+    Ok((none_unused, many_unused))
 }
 
 #[test]
-fn unused_variables_are_false(rt: HostRuntime) -> Result<(), Fail> {
-    let none_unused = found_among(rt.alloc(), 2)?;
-    let many_unused = found_among(rt.alloc(), 2_000_000)?;
-    assert_eq!(rt; none_unused.as_str(), "2 values, true: 1 2");
-    assert_eq!(rt; many_unused.as_str(), "2000000 values, true: 1 2");
-    Ok(())
+fn unused_variables_are_false(rt: HostRuntime) {
+    expect(&rt, both_found(rt.alloc()), &(true, true));
 }
