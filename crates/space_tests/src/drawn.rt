@@ -1,13 +1,13 @@
 //! Drawn parities, and all values that meet them.
 ghost use Rattle.std.specs.Prelude.{◌≡◌, [], OnOk};
 
+use crate::expecting::expect;
 use crate::numbers::{next, some_lists};
 use crate::printing::printed;
 use crate::values::{bit, free, is_true, solution_with, solutions};
 use cx_base::{Formula, FormulaBuilder, LitList, Var};
 use gf2_space::{Space, space};
 use std::alloc::{AllocError, Global};
-use std::test::Fail;
 
 /// Adds a parity.
 fn add(builder: &mut FormulaBuilder, parity: &LitList) -> Result<(), AllocError>
@@ -167,27 +167,69 @@ fn contains_just(alloc: Global, space: &Space, solutions: &[u32]) -> Result<bool
     Ok(true)
 }
 
-/// Whether the space of some solutions is told by its calls and printed.
-fn is_right(
+/// What is to be printed of the space of some solutions.
+fn wanted_of(alloc: Global, solutions: &[u32], vars: u32) -> Result<String, AllocError> {
+    let mut text = String::new(alloc);
+    put_space_of(&mut text, solutions, free(solutions), vars)?;
+    Ok(text)
+}
+
+/// Whether that is printed of a space.
+fn is_printed(
     alloc: Global,
     space: &Space,
     solutions: &[u32],
     vars: u32,
 ) -> Result<bool, AllocError> {
-    let free = free(solutions);
-    let mut text = String::new(alloc);
-    put_space_of(&mut text, solutions, free, vars)?;
+    let wanted = wanted_of(alloc, solutions, vars)?;
     let printed = printed(alloc, space, 1000)?;
-    Ok(
-        printed.as_slice() == text.as_bytes()
-            && space.vars() == vars
-            && point_of(space) == solution_with(solutions, free, 0)
-            && has_vectors(space, solutions, free)
-            && contains_just(alloc, space, solutions)?,
-    )
+    Ok(printed.as_slice() == wanted.as_bytes())
 }
 
-/// How many solutions this many parities over this many variables have, if the space is right.
+/// Whether the space of some solutions is told by its calls.
+fn is_told(space: &Space, solutions: &[u32], vars: u32) -> bool {
+    let free = free(solutions);
+    space.vars() == vars
+        && point_of(space) == solution_with(solutions, free, 0)
+        && has_vectors(space, solutions, free)
+}
+
+/// Whether the space of a formula is that of some solutions.
+fn is_right(
+    alloc: Global,
+    formula: &Formula,
+    solutions: &[u32],
+    vars: u32,
+) -> Result<bool, AllocError> {
+    match &space(alloc, formula)? {
+        Some(space) => Ok(
+            is_told(space, solutions, vars)
+                && is_printed(alloc, space, solutions, vars)?
+                && contains_just(alloc, space, solutions)?,
+        ),
+        None => Ok(solutions.is_empty()),
+    }
+}
+
+/// Whether the space of parities is that of some solutions.
+fn is_right_of(
+    alloc: Global,
+    parities: &[LitList],
+    solutions: &[u32],
+    vars: u32,
+) -> Result<bool, AllocError> {
+    let formula = formula(alloc, parities, vars)?;
+    is_right(alloc, &formula, solutions, vars)
+}
+
+/// How many solutions parities have, if the space is right.
+fn count_of(alloc: Global, parities: &[LitList], vars: u32) -> Result<Option<usize>, AllocError> {
+    let solutions = solutions(alloc, parities, vars)?;
+    let right = is_right_of(alloc, parities, &solutions, vars)?;
+    Ok(if right { Some(solutions.len()) } else { None })
+}
+
+/// As `count_of`, of this many parities over this many variables.
 fn count_if_right(
     alloc: Global,
     seed: u64,
@@ -196,39 +238,51 @@ fn count_if_right(
 ) -> Result<Option<usize>, AllocError> {
     let mut numbers = seed;
     let parities = some_lists(alloc, &mut numbers, vars, count)?;
-    let solutions = solutions(alloc, &parities, vars)?;
-    let formula = formula(alloc, &parities, vars)?;
-    let right = match &space(alloc, &formula)? {
-        Some(space) => is_right(alloc, space, &solutions, vars)?,
-        None => solutions.is_empty(),
-    };
-    Ok(if right { Some(solutions.len()) } else { None })
+    count_of(alloc, &parities, vars)
 }
 
-/// Draws parities of up to eight variables. Writes those whose space is not right, and counts those with and without solutions.
-fn put_others(alloc: Global, others: &mut String, seeds: u64) -> Result<(u64, u64), AllocError> {
+/// Draws parities of up to eight variables. Writes them if their space is not right, and else counts them with those that
+/// have solutions or with those that have none.
+fn put_other(
+    alloc: Global,
+    others: &mut String,
+    seed: u64,
+    (solved, unsolved): (&mut u64, &mut u64),
+) -> Result<(), AllocError> {
+    let mut numbers = seed;
+    let vars = 1 + (next(&mut numbers) % 8) as u32;
+    let count = next(&mut numbers) % 9;
+    match count_if_right(alloc, numbers, vars, count)? {
+        Some(0) => *unsolved = unsolved.saturating_add(1),
+        Some(_) => *solved = solved.saturating_add(1),
+        None => writeln!(
+            others,
+            "seed {seed}: {count} parities over {vars} variables"
+        )?,
+    }
+    Ok(())
+}
+
+/// As `put_other`, of each seed. Writes the counts too if they are small.
+fn put_others(alloc: Global, others: &mut String, seeds: u64) -> Result<(), AllocError> {
     let (mut solved, mut unsolved) = (0u64, 0u64);
     for seed in 1..=seeds {
-        let mut numbers = seed;
-        let vars = 1 + (next(&mut numbers) % 8) as u32;
-        let count = next(&mut numbers) % 9;
-        match count_if_right(alloc, numbers, vars, count)? {
-            Some(0) => unsolved = unsolved.saturating_add(1),
-            Some(_) => solved = solved.saturating_add(1),
-            None => writeln!(
-                others,
-                "seed {seed}: {count} parities over {vars} variables"
-            )?,
-        }
+        put_other(alloc, others, seed, (&mut solved, &mut unsolved))?;
     }
-    Ok((solved, unsolved))
+    if solved > 20 && unsolved > 10 {
+        return Ok(());
+    }
+    writeln!(others, "{solved} and {unsolved}")
+}
+
+/// What `put_others` writes.
+fn others(alloc: Global, seeds: u64) -> Result<String, AllocError> {
+    let mut others = String::new(alloc);
+    put_others(alloc, &mut others, seeds)?;
+    Ok(others)
 }
 
 #[test]
-fn drawn_parities_have_the_solutions_that_all_values_show(rt: HostRuntime) -> Result<(), Fail> {
-    let mut others = String::new(rt.alloc());
-    let (solved, unsolved) = put_others(rt.alloc(), &mut others, 80)?;
-    assert_eq!(rt; others.as_str(), "");
-    assert!(rt; solved > 20 && unsolved > 10, "{solved} and {unsolved}");
-    Ok(())
+fn drawn_parities_have_the_solutions_that_all_values_show(rt: HostRuntime) {
+    expect(&rt, others(rt.alloc(), 80), "");
 }

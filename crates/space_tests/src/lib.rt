@@ -4,6 +4,8 @@
 #[cfg(test)]
 mod drawn;
 #[cfg(test)]
+mod expecting;
+#[cfg(test)]
 mod numbers;
 mod printing;
 #[cfg(test)]
