@@ -144,25 +144,23 @@ fn turns(
     alloc: Global,
     size: (u32, u64),
     clauses: &mut IndexedClauses,
-    tally: &mut Tally,
-) -> Result<(), AllocError> {
+) -> Result<Tally, AllocError> {
     let mut seed = 7;
-    for _ in 0..9_000 {
-        turn(alloc, &mut seed, size, clauses, tally)?;
-    }
-    Ok(())
-}
-
-/// What comes of the turns, from no clause on, beside a formula.
-fn tally_beside(alloc: Global, formula: &Formula, size: (u32, u64)) -> Result<Tally, AllocError> {
-    let mut clauses = IndexedClauses::make(alloc, formula);
     let mut tally = Tally {
         chains: 0,
         nones: 0,
         faults: 0,
     };
-    turns(alloc, size, &mut clauses, &mut tally)?;
+    for _ in 0..9_000 {
+        turn(alloc, &mut seed, size, clauses, &mut tally)?;
+    }
     Ok(tally)
+}
+
+/// What comes of the turns, from no clause on, beside a formula.
+fn tally_beside(alloc: Global, formula: &Formula, size: (u32, u64)) -> Result<Tally, AllocError> {
+    let mut clauses = IndexedClauses::make(alloc, formula);
+    turns(alloc, size, &mut clauses)
 }
 
 /// As `tally_beside`, of a formula whose clauses come among the others.

@@ -2,8 +2,7 @@
 use std::fmt::Debug;
 use std::process::Abort;
 
-/// Fails unless this is told, and says what is instead.
-pub(crate) fn expect_told(rt: &impl Abort, told: &str, wanted: &str) {
+fn expect_told(rt: &impl Abort, told: &str, wanted: &str) {
     assert_eq!(*rt; told, wanted);
 }
 

@@ -1,14 +1,13 @@
 //! Worked proofs, and what is left of them when they are trimmed.
-ghost use Rattle.std.specs.Prelude.{◌≡◌, false};
+ghost use Rattle.std.specs.Prelude.{◌≡◌, IfOk, false, true};
 
-use crate::expecting::expect_told;
+use crate::expecting::expect;
 use cnfx_reader::read_formula;
-use cx_base::ProofStep;
+use cx_base::{Formula, ProofStep};
 use cx_semantics::Cause;
 use proof_text::{ProofText, StepRef};
 use proof_trim::{KeptSteps, TrimOf, trim};
 use std::alloc::{AllocError, Global};
-use std::test::Fail;
 use step_text::{SpareLists, StepSource};
 
 /// What comes of a proof.
@@ -28,16 +27,40 @@ fn push_step(text: &mut String, step: StepRef<'_>) -> Result<(), AllocError> {
     write!(text, "{step:?} ")
 }
 
+/// Puts the next step after others, or why there is none. Whether there may be more.
+fn push_next<S: StepSource<Step = ProofStep>>(
+    source: &mut S,
+    spare: &mut SpareLists,
+    text: &mut String,
+) -> Result<bool, AllocError>
+    requires { S.is_spent source.old ≡ false }
+    ensures { IfOk result (λ more. more ≡ true → S.is_spent source.new ≡ false) }
+{
+    match source.next_step(spare) {
+        Ok(Some(step)) => {
+            push_step(text, StepRef::of(&step))?;
+            Ok(true)
+        }
+        Ok(None) => Ok(false),
+        Err(refusal) => {
+            write!(text, "{refusal:?}")?;
+            Ok(false)
+        }
+    }
+}
+
 /// The next steps, at most sixteen.
-fn steps_of<S: StepSource<Step = ProofStep>>(alloc: Global, source: &mut S) -> Result<String, Fail>
+fn steps_of<S: StepSource<Step = ProofStep>>(
+    alloc: Global,
+    source: &mut S,
+) -> Result<String, AllocError>
     requires { S.is_spent source.old ≡ false }
 {
     let mut spare = SpareLists::new(alloc);
     let mut text = String::new(alloc);
     for _ in 0..16 {
-        match source.next_step(&mut spare)? {
-            Some(step) => push_step(&mut text, StepRef::of(&step))?,
-            None => return Ok(text),
+        if !push_next(source, &mut spare, &mut text)? {
+            break;
         }
     }
     Ok(text)
@@ -84,31 +107,58 @@ fn told_of(alloc: Global, answer: TrimOf) -> Result<String, AllocError> {
 }
 
 /// What comes of a proof of at most 4,096 bytes.
-fn told(alloc: Global, formula: &str, proof: &str) -> Result<String, Fail> {
-    let formula = read_formula(alloc, formula.as_bytes())?;
-    let proof = proof.as_bytes();
+fn told_over(alloc: Global, formula: &Formula, proof: &[u8]) -> Result<String, AllocError> {
     if proof.len() > 4096 {
-        return Ok(String::from_str(alloc, "too long")?);
+        return String::from_str(alloc, "too long");
     }
-    Ok(told_of(alloc, trim(alloc, &formula, &mut ProofText::new(proof))?)?)
+    match trim(alloc, formula, &mut ProofText::new(proof)) {
+        Ok(answer) => told_of(alloc, answer),
+        Err(fault) => format!(in alloc; "not trimmed: {fault:?}"),
+    }
+}
+
+/// As `told_over`, over the formula of a text.
+fn told(alloc: Global, formula: &str, proof: &str) -> Result<String, AllocError> {
+    match &read_formula(alloc, formula.as_bytes()) {
+        Ok(formula) => told_over(alloc, formula, proof.as_bytes()),
+        Err(refusal) => format!(in alloc; "no formula: {refusal:?}"),
+    }
 }
 
 /// What is told where steps of at most 4,096 bytes are left.
-fn left_of(alloc: Global, steps: &[u8], clauses: &[u64], parities: &[u64]) -> Result<String, Fail> {
+fn left_of(
+    alloc: Global,
+    steps: &[u8],
+    clauses: &[u64],
+    parities: &[u64],
+) -> Result<String, AllocError> {
     if steps.len() > 4096 {
-        return Ok(String::from_str(alloc, "too long")?);
+        return String::from_str(alloc, "the wanted steps are too long");
     }
     let steps = steps_of(alloc, &mut ProofText::new(steps))?;
-    Ok(left(alloc, steps.as_str(), clauses, parities)?)
+    left(alloc, steps.as_str(), clauses, parities)
 }
 
-fn wanted_of(alloc: Global, wanted: &Wanted) -> Result<String, Fail> {
+fn wanted_of(alloc: Global, wanted: &Wanted) -> Result<String, AllocError> {
     match *wanted {
         Wanted::Left(steps, clauses, parities) => {
             left_of(alloc, steps.as_bytes(), clauses, parities)
         }
-        Wanted::Refused(step, cause) => Ok(refused(alloc, step, cause)?),
+        Wanted::Refused(step, cause) => refused(alloc, step, cause),
     }
+}
+
+/// Writes a proof and what comes of it, if that is not this.
+fn put_unless(
+    others: &mut String,
+    proof: &str,
+    told: &str,
+    wanted: &str,
+) -> Result<(), AllocError> {
+    if told == wanted {
+        return Ok(());
+    }
+    writeln!(others, "{proof}{told}")
 }
 
 /// Writes a proof and what comes of it, if something else is wanted.
@@ -118,16 +168,14 @@ fn put_other(
     formula: &str,
     proof: &str,
     wanted: &Wanted,
-) -> Result<(), Fail> {
+) -> Result<(), AllocError> {
     let told = told(alloc, formula, proof)?;
-    if told.as_str() == wanted_of(alloc, wanted)?.as_str() {
-        return Ok(());
-    }
-    Ok(writeln!(others, "{proof}{told}")?)
+    let wanted = wanted_of(alloc, wanted)?;
+    put_unless(others, proof, told.as_str(), wanted.as_str())
 }
 
 /// Goes over a row, and over the steps that are left of its proof: trimmed again they are all left.
-fn put_others(alloc: Global, others: &mut String, row: &Row) -> Result<(), Fail> {
+fn put_others(alloc: Global, others: &mut String, row: &Row) -> Result<(), AllocError> {
     let (formula, proof, wanted) = *row;
     put_other(alloc, others, formula, proof, &wanted)?;
     if let Wanted::Left(steps, _, _) = wanted {
@@ -137,7 +185,7 @@ fn put_others(alloc: Global, others: &mut String, row: &Row) -> Result<(), Fail>
 }
 
 /// The proofs that give something other than wanted.
-fn others(alloc: Global, rows: &[Row]) -> Result<String, Fail> {
+fn others(alloc: Global, rows: &[Row]) -> Result<String, AllocError> {
     let mut others = String::new(alloc);
     for row in rows {
         put_others(alloc, &mut others, row)?;
@@ -213,7 +261,6 @@ const ROWS: [Row; 10] = [
 ];
 
 #[test]
-fn needed_steps_are_left(rt: HostRuntime) -> Result<(), Fail> {
-    expect_told(&rt, others(rt.alloc(), &ROWS)?.as_str(), "");
-    Ok(())
+fn needed_steps_are_left(rt: HostRuntime) {
+    expect(&rt, others(rt.alloc(), &ROWS), "");
 }
