@@ -14,7 +14,7 @@ use std::alloc::{AllocError, Global};
 type Row = (Kind, u64, &'static [i64]);
 
 /// The four clauses over 1 and 2 and one over 3, and four parities over these.
-const ROWS: [Row; 9] = [
+static ROWS: [Row; 9] = [
     (Kind::Clauses, 1, &[1, 2]),
     (Kind::Clauses, 2, &[-1, 2]),
     (Kind::Clauses, 3, &[1, -2]),
@@ -197,7 +197,7 @@ fn others(alloc: Global, trial: &Trial) -> Result<String, AllocError> {
     Ok(others)
 }
 
-const CHAINS: [Case; 8] = [
+static CHAINS: [Case; 8] = [
     (&[2], &[1, 2], None),
     (&[2], &[1, 1, 2, 4], None),
     (&[2], &[1], Some(Cause::HintsEnd)),
@@ -209,7 +209,7 @@ const CHAINS: [Case; 8] = [
 ];
 
 /// Where the second clause is gone.
-const CHAINS_THEN: [Case; 1] = [(&[2], &[1, 2], Some(Cause::HintNotLive))];
+static CHAINS_THEN: [Case; 1] = [(&[2], &[1, 2], Some(Cause::HintNotLive))];
 
 #[test]
 fn chains(rt: HostRuntime) {
@@ -218,7 +218,7 @@ fn chains(rt: HostRuntime) {
     expect(&rt, others(rt.alloc(), &trial), "");
 }
 
-const SUMS: [Case; 10] = [
+static SUMS: [Case; 10] = [
     (&[1, -3], &[1, 2], None),
     (&[1, 3], &[1, 2], Some(Cause::SumDiffers)),
     (&[], &[4], Some(Cause::SumDiffers)),
@@ -232,7 +232,7 @@ const SUMS: [Case; 10] = [
 ];
 
 /// Where the first parity is gone.
-const SUMS_THEN: [Case; 1] = [(&[1, 2], &[1], Some(Cause::HintNotLive))];
+static SUMS_THEN: [Case; 1] = [(&[1, 2], &[1], Some(Cause::HintNotLive))];
 
 #[test]
 fn sums(rt: HostRuntime) {
@@ -241,7 +241,7 @@ fn sums(rt: HostRuntime) {
     expect(&rt, others(rt.alloc(), &trial), "");
 }
 
-const CLAUSES_OF_A_PARITY: [Case; 8] = [
+static CLAUSES_OF_A_PARITY: [Case; 8] = [
     (&[-1, -2], &[1], None),
     (&[1, 2], &[1], None),
     (&[1], &[1], Some(Cause::NotImplied)),
@@ -253,7 +253,7 @@ const CLAUSES_OF_A_PARITY: [Case; 8] = [
 ];
 
 /// Where the first parity is gone.
-const CLAUSES_OF_A_PARITY_THEN: [Case; 1] = [(&[1, 2], &[1], Some(Cause::HintNotLive))];
+static CLAUSES_OF_A_PARITY_THEN: [Case; 1] = [(&[1, 2], &[1], Some(Cause::HintNotLive))];
 
 #[test]
 fn clauses_of_a_parity(rt: HostRuntime) {
@@ -267,7 +267,7 @@ fn clauses_of_a_parity(rt: HostRuntime) {
     expect(&rt, others(rt.alloc(), &trial), "");
 }
 
-const PARITIES_OF_CLAUSES: [Case; 8] = [
+static PARITIES_OF_CLAUSES: [Case; 8] = [
     (&[1, 2], &[1, 4], None),
     (&[1, -2], &[2, 3], None),
     (&[1, 2], &[1], Some(Cause::NotImplied)),
@@ -287,7 +287,7 @@ const PARITIES_OF_CLAUSES: [Case; 8] = [
 ];
 
 /// Where the fourth clause is gone.
-const PARITIES_OF_CLAUSES_THEN: [Case; 1] = [(&[1, 2], &[1, 4], Some(Cause::HintNotLive))];
+static PARITIES_OF_CLAUSES_THEN: [Case; 1] = [(&[1, 2], &[1, 4], Some(Cause::HintNotLive))];
 
 #[test]
 fn parities_of_clauses(rt: HostRuntime) {

@@ -94,7 +94,7 @@ fn others(alloc: Global, cases: &[Case]) -> Result<String, ElabFault> {
     Ok(others)
 }
 
-const GIVEN: [Case; 5] = [
+static GIVEN: [Case; 5] = [
     ("", "l 10 11 0", 6, &[STRAIGHT]),
     ("f 99 500 0\nd 77 0\n", "l 10 11 0", 8, &[STRAIGHT]),
     ("d 13 0\no 13 -2 -1 -1 0\n", "l 10 11 0", 8, &[STRAIGHT]),
@@ -108,7 +108,7 @@ fn a_proof_is_written(rt: HostRuntime) {
 }
 
 /// Without hints, and with wrong ones.
-const SEARCHED: [Case; 3] = [
+static SEARCHED: [Case; 3] = [
     ("", "", 6, &[STRAIGHT, TURNED]),
     ("", "l 10 10 99 0", 6, &[STRAIGHT, TURNED]),
     ("", "l 10 12 0", 6, &[STRAIGHT, TURNED]),

@@ -199,7 +199,7 @@ const SQUARE: &str = "p cnf 2 4\n1 2 0\n-1 2 0\n1 -2 0\n-1 -2 0\n";
 /// Three parities whose sum is the one that is never met, and a clause.
 const TRIANGLE: &str = "p cnf 3 4\nx1 2 0\nx2 3 0\nx1 3 0\n1 2 3 0\n";
 
-const ROWS: [Row; 10] = [
+static ROWS: [Row; 10] = [
     // a step that no other one names
     (
         SQUARE,
