@@ -102,7 +102,7 @@ fn a_long_answer_is_written_whole(rt: HostRuntime) {
 }
 
 /// Texts for the formula that is the parity of 1 and 2 and the clause of 1.
-const TEXTS: [&[u8]; 19] = [
+static TEXTS: [&[u8]; 19] = [
     // Answers that give values.
     b"s SATISFIABLE\nv 1 -2 0\n",
     b"c hi\n\n \t\n s  SATISFIABLE\r\n\nc v 3\nv\n v 01\r\n\n\nv -002 -0",

@@ -4,7 +4,7 @@ use cx_words::{InstanceKind, Name, Plan, PlanRefusal, SearchOptions, plan};
 use std::alloc::{AllocError, Global};
 
 /// Command lines with one blank between two words, and the plans that they ask for.
-const TAKEN: [(&str, &str); 58] = [
+static TAKEN: [(&str, &str); 58] = [
     ("cxsat solve f", "solve f 1000000"),
     ("cxsat solve -", "solve - 1000000"),
     ("cxsat solve f --proof l", "solve f 1000000 to l"),
@@ -84,7 +84,7 @@ const TAKEN: [(&str, &str); 58] = [
 ];
 
 /// Command lines that ask for nothing.
-const REFUSED: [&str; 91] = [
+static REFUSED: [&str; 91] = [
     "",
     "cxsat",
     "cxsat --help",

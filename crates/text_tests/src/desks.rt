@@ -162,7 +162,7 @@ fn told(alloc: Global, cases: &[Case]) -> Result<String, AllocError> {
 }
 
 /// What is done with desks.
-const CASES: [Case; 15] = [
+static CASES: [Case; 15] = [
     // A text is read up to the limit.
     (WIDE, 2, &[], Act::Read(Reading::Whole(u64::MAX))),
     (WIDE, 2, &[], Act::Read(Reading::Whole(5))),

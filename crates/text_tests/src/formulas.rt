@@ -73,7 +73,7 @@ fn add_all(formula: &Formula, lists: &[&[bool]], told: &mut String) -> Result<()
 }
 
 /// Lists of values for the small formula.
-const LISTS: [&[bool]; 3] = [&[true, true], &[true, false], &[false, true]];
+static LISTS: [&[bool]; 3] = [&[true, true], &[true, false], &[false, true]];
 
 /// All that of a formula.
 fn told_of(alloc: Global, formula: &Formula) -> Result<String, AllocError> {

@@ -154,7 +154,7 @@ fn marks_are_lines_that_are_passed_over(rt: HostRuntime) -> Result<(), Fail> {
 }
 
 /// Texts of logs.
-const TEXTS: [&[u8]; 27] = [
+static TEXTS: [&[u8]; 27] = [
     // one step, which is printed as it was read
     b"o 1 1 -2 0\n",
     b"o x 1 1 2 0\n",

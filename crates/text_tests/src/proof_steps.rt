@@ -86,7 +86,7 @@ impl Reprint for Proofs {
 }
 
 /// Texts of proofs.
-const TEXTS: [&[u8]; 26] = [
+static TEXTS: [&[u8]; 26] = [
     // one step, which is printed as it was read
     b"5 1 -2 0 3 -4 0\n",
     b"6 0 0\n",

@@ -122,7 +122,7 @@ fn all_told(alloc: Global, texts: &[&[u8]]) -> Result<String, AllocError> {
 }
 
 /// Texts with and without an offence.
-const TEXTS: [&[u8]; 20] = [
+static TEXTS: [&[u8]; 20] = [
     b"",
     b"1 0",
     b"c a\r\n%\n",

@@ -106,7 +106,7 @@ fn add_others(
 }
 
 /// Texts of at most 28 bytes.
-const TEXTS: [&[u8]; 8] = [
+static TEXTS: [&[u8]; 8] = [
     b"",
     b"c a\n5 2 0 1 2 0\n6 0 5 3 4 0",
     b"5 2 0 1 2 0\nc x\n6 0 5 3 4 0\n",
@@ -130,7 +130,7 @@ const WANTED: &str = "\
 ";
 
 /// A text with a byte past the limit.
-const LONG: [&[u8]; 1] = [b"5 2 0 1 2 0\n6 0 5 3 4 0\nzzzz\n"];
+static LONG: [&[u8]; 1] = [b"5 2 0 1 2 0\n6 0 5 3 4 0\nzzzz\n"];
 
 /// What is told otherwise than wanted.
 fn others(alloc: Global) -> Result<String, AllocError> {
