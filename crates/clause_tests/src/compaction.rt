@@ -9,7 +9,7 @@ use cx_trail::Trail;
 use std::alloc::{AllocError, Global};
 
 /// Two clauses; the first one is removed.
-const TWO: [Row; 2] = [(&[1, 2], 7, 0, false), (&[-1, 3, 2], 8, 2, true)];
+static TWO: [Row; 2] = [(&[1, 2], 7, 0, false), (&[-1, 3, 2], 8, 2, true)];
 
 /// Closes the gaps of an arena. Where two clauses are then.
 fn moves(
@@ -84,13 +84,13 @@ fn a_reason_takes_its_new_reference(rt: HostRuntime) {
 }
 
 /// A clause that gave its literal at level 0, and two that go on to force theirs.
-const ROWS: [Row; 3] = [
+static ROWS: [Row; 3] = [
     (&[4, 2], 7, 0, false),
     (&[-1, 3], 8, 2, true),
     (&[-3, -2], 9, 3, true),
 ];
 
-const ACTS: [Act; 13] = [
+static ACTS: [Act; 13] = [
     Act::Attach,
     Act::Imply(4, 0),
     Act::Decide(1),

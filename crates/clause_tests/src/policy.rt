@@ -1,14 +1,13 @@
 //! Worked examples of the search's policy.
 ghost use Rattle.std.specs.Prelude.{◌≡◌, ◌≤◌, length};
 
-use crate::expecting::{expect, expect_equal};
+use crate::expecting::{expect, expect_equal, expect_found};
 use cx_base::{ClauseRef, Var};
 use cx_trail::Trail;
 use search_policy::{Card, Order, choose_removed, choose_removed_in_place, luby, restart_due};
 use std::alloc::{AllocError, Global};
-use std::test::Fail;
 
-const FIRST_NUMBERS: [u64; 15] = [1, 1, 2, 1, 1, 2, 4, 1, 1, 2, 1, 1, 2, 4, 8];
+static FIRST_NUMBERS: [u64; 15] = [1, 1, 2, 1, 1, 2, 4, 1, 1, 2, 1, 1, 2, 4, 8];
 
 /// The sequence's first numbers.
 fn first_numbers() -> [u64; 15] {
@@ -111,13 +110,17 @@ fn bumped(order: &mut Order, trail: &Trail) -> ([Option<Var>; 3], u32)
     ([new, third, order.pick(trail)], order.weight())
 }
 
+/// As `bumped`, of a new order.
+fn bumped_of_new(alloc: Global) -> Result<([Option<Var>; 3], u32), AllocError> {
+    let trail = Trail::make(alloc, 3)?;
+    let mut order = Order::make(alloc, 3)?;
+    Ok(bumped(&mut order, &trail))
+}
+
 #[test]
-fn many_bumps_are_those_one_by_one(rt: HostRuntime) -> Result<(), Fail> {
-    let trail = Trail::make(rt.alloc(), 3)?;
-    let mut order = Order::make(rt.alloc(), 3)?;
+fn many_bumps_are_those_one_by_one(rt: HostRuntime) {
     let picks = [Some(Var::new(1)), Some(Var::new(3)), Some(Var::new(2))];
-    expect_equal(&rt, &bumped(&mut order, &trail), &(picks, 1024));
-    Ok(())
+    expect_found(&rt, bumped_of_new(rt.alloc()), &(picks, 1024));
 }
 
 /// Bumps the first variable up to one time below the bound.
@@ -156,13 +159,17 @@ fn halved(order: &mut Order, trail: &Trail) -> ([u32; 2], [Option<Var>; 2])
     ([before, behind], [equal, order.pick(trail)])
 }
 
+/// As `halved`, of a new order.
+fn halved_of_new(alloc: Global) -> Result<([u32; 2], [Option<Var>; 2]), AllocError> {
+    let trail = Trail::make(alloc, 2)?;
+    let mut order = Order::make(alloc, 2)?;
+    Ok(halved(&mut order, &trail))
+}
+
 #[test]
-fn bumps_go_on_after_all_scores_were_halved(rt: HostRuntime) -> Result<(), Fail> {
-    let trail = Trail::make(rt.alloc(), 2)?;
-    let mut order = Order::make(rt.alloc(), 2)?;
+fn bumps_go_on_after_all_scores_were_halved(rt: HostRuntime) {
     let picks = [Some(Var::new(1)), Some(Var::new(2))];
-    expect_equal(&rt, &halved(&mut order, &trail), &([1024, 512], picks));
-    Ok(())
+    expect_found(&rt, halved_of_new(rt.alloc()), &([1024, 512], picks));
 }
 
 /// The weight after one conflict, after two and after a thousand more.
@@ -177,9 +184,14 @@ fn weights(order: &mut Order) -> [u32; 3] {
     [first, second, order.weight()]
 }
 
+/// As `weights`, of a new order.
+fn weights_of_new(alloc: Global) -> Result<[u32; 3], AllocError> {
+    let mut order = Order::make(alloc, 1)?;
+    Ok(weights(&mut order))
+}
+
 #[test]
-fn the_weight_grows_by_a_thirty_second(rt: HostRuntime) -> Result<(), Fail> {
-    let mut order = Order::make(rt.alloc(), 1)?;
-    expect_equal(&rt, &weights(&mut order), &[1056, 1089, 250_000_000]);
-    Ok(())
+fn the_weight_grows_by_a_thirty_second(rt: HostRuntime) {
+    let wanted = [1056, 1089, 250_000_000];
+    expect_found(&rt, weights_of_new(rt.alloc()), &wanted);
 }
