@@ -5,13 +5,13 @@ ghost use Rattle.cx_base.specs.Problem.{AreWithin};
 ghost use Rattle.cx_base.specs.declared.literal.TheConstants.{MAX_VARIABLE};
 
 use crate::driven::{Act, trace_of};
+use crate::expecting::expect;
 use cx_base::ParityList;
 use gauss_incremental::{Incremental, ShortFirst};
 use gauss_jordan::Scratch;
 use parity_driver::{Numbers, any_parities};
 use parity_engine::ParityEngine;
 use std::alloc::{AllocError, Global};
-use std::test::Fail;
 
 /// Opens a level, takes some back, or assigns a literal, which comes most often.
 fn any_act(numbers: &mut Numbers, vars: u32) -> Act
@@ -90,7 +90,6 @@ fn first_fault(alloc: Global) -> Result<Option<u64>, AllocError> {
 }
 
 #[test]
-fn engines_know_the_same(rt: HostRuntime) -> Result<(), Fail> {
-    assert_eq!(rt; first_fault(rt.alloc())?, None);
-    Ok(())
+fn engines_know_the_same(rt: HostRuntime) {
+    expect(&rt, first_fault(rt.alloc()), &None);
 }

@@ -5,13 +5,13 @@ ghost use Rattle.cx_base.specs.Problem.{AreWithin};
 ghost use Rattle.cx_base.specs.declared.literal.TheConstants.{MAX_VARIABLE};
 
 use crate::driven::{Act, Told, trace_of};
+use crate::expecting::expect_told;
 use crate::parities::{parities_of, yes};
 use cx_base::{Lit, ParityList};
 use gauss_incremental::{Incremental, ShortFirst};
 use gauss_jordan::Scratch;
 use parity_engine::ParityEngine;
 use std::alloc::{AllocError, Global};
-use std::test::Fail;
 
 /// The variable, with a minus for a negative literal.
 fn integer(lit: Lit) -> i64 {
@@ -201,10 +201,9 @@ const LEVELS: Case = Case {
 };
 
 /// Each worked case.
-const CASES: [Case; 2] = [FOLLOWING, LEVELS];
+static CASES: [Case; 2] = [FOLLOWING, LEVELS];
 
 #[test]
-fn engines_tell_what_follows(rt: HostRuntime) -> Result<(), Fail> {
-    assert_eq!(rt; others(rt.alloc(), &CASES)?.as_str(), "");
-    Ok(())
+fn engines_tell_what_follows(rt: HostRuntime) {
+    expect_told(&rt, others(rt.alloc(), &CASES), "");
 }

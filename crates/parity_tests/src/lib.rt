@@ -8,6 +8,8 @@ mod agreement;
 mod driven;
 #[cfg(test)]
 mod events;
+#[cfg(test)]
+mod expecting;
 mod parities;
 #[cfg(test)]
 mod parts;

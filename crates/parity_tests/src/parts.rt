@@ -1,11 +1,11 @@
 //! Matrices with several parts, and where a part begins inside a word.
 ghost use Rattle.std.specs.Prelude.{◌<◌, length};
 
+use crate::expecting::{expect, expect_told};
 use crate::parities::parities_of;
 use cx_base::Var;
 use gf2_matrix::{Matrix, clear_words};
 use std::alloc::{AllocError, Global};
-use std::test::Fail;
 
 /// The column of a variable, or the number of columns; none of what is no variable.
 fn place_of(matrix: &Matrix, variable: u32) -> Option<usize> {
@@ -268,12 +268,11 @@ const EMPTY: Case = Case {
 };
 
 /// Each worked case.
-const CASES: [Case; 4] = [APART, JOINED, CANCELLED, EMPTY];
+static CASES: [Case; 4] = [APART, JOINED, CANCELLED, EMPTY];
 
 #[test]
-fn matrices_have_parts(rt: HostRuntime) -> Result<(), Fail> {
-    assert_eq!(rt; others(rt.alloc(), &CASES)?.as_str(), "");
-    Ok(())
+fn matrices_have_parts(rt: HostRuntime) {
+    expect_told(&rt, others(rt.alloc(), &CASES), "");
 }
 
 /// The numbers from 1 up to 63.
@@ -305,9 +304,13 @@ fn is_told_across_words(alloc: Global, long: &[u32]) -> Result<bool, AllocError>
     Ok(told.as_str() == wanted_of_long_row(alloc, long)?.as_str())
 }
 
+/// As `is_told_across_words`, of the numbers from 1 up to 63.
+fn is_long_row_told(alloc: Global) -> Result<bool, AllocError> {
+    let long = long_row(alloc)?;
+    is_told_across_words(alloc, &long)
+}
+
 #[test]
-fn a_part_lies_across_two_words(rt: HostRuntime) -> Result<(), Fail> {
-    let long = long_row(rt.alloc())?;
-    assert!(rt; is_told_across_words(rt.alloc(), &long)?);
-    Ok(())
+fn a_part_lies_across_two_words(rt: HostRuntime) {
+    expect(&rt, is_long_row_told(rt.alloc()), &true);
 }

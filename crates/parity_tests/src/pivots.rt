@@ -1,10 +1,10 @@
 //! A worked pivot.
+use crate::expecting::expect_told;
 use crate::parities::parities_of;
 use crate::parts::rows;
 use cx_base::{Lit, Var};
 use gf2_matrix::Matrix;
 use std::alloc::{AllocError, Global};
-use std::test::Fail;
 
 /// Pivots the row on the column, if it has it.
 fn pivots(matrix: &mut Matrix, row: usize, column: usize) -> bool {
@@ -54,13 +54,12 @@ fn told_of_two(alloc: Global) -> Result<String, AllocError> {
 }
 
 #[test]
-fn a_pivot_adds_the_sources(rt: HostRuntime) -> Result<(), Fail> {
+fn a_pivot_adds_the_sources(rt: HostRuntime) {
     let wanted = "\
 false true
 [1, 2] true [1]
 [1, 3] false [1, 2]
 2 true
 ";
-    assert_eq!(rt; told_of_two(rt.alloc())?.as_str(), wanted);
-    Ok(())
+    expect_told(&rt, told_of_two(rt.alloc()), wanted);
 }

@@ -5,6 +5,7 @@ ghost use Rattle.cx_base.specs.Problem.{AreWithin};
 ghost use Rattle.cx_trail.specs.Sequence.{IsOpenIn};
 ghost use Rattle.xor_reason.specs.Laws.{StandsOn};
 
+use crate::expecting::expect;
 use crate::parities::{parities_of, yes};
 use cx_base::{Lit, ParityList, Row, Var};
 use cx_trail::{Reason, Trail};
@@ -12,7 +13,6 @@ use gauss_incremental::{Incremental, ShortFirst};
 use gauss_jordan::Scratch;
 use parity_engine::{ParityEngine, ParityEvent};
 use std::alloc::{AllocError, Global};
-use std::test::Fail;
 use xor_reason::{ReasonOf, reason_clause};
 
 /// Whether the trail can take the variable.
@@ -93,11 +93,15 @@ fn gives_triple<P: ParityEngine + Drop>(alloc: Global) -> Result<bool, AllocErro
     }
 }
 
+/// As `gives_triple`, of each engine.
+fn all_give_triple(alloc: Global) -> Result<(bool, bool, bool), AllocError> {
+    let scratch = gives_triple::<Scratch>(alloc)?;
+    let incremental = gives_triple::<Incremental>(alloc)?;
+    let short_first = gives_triple::<ShortFirst>(alloc)?;
+    Ok((scratch, incremental, short_first))
+}
+
 #[test]
-fn two_of_three_are_false(rt: HostRuntime) -> Result<(), Fail> {
-    let scratch = gives_triple::<Scratch>(rt.alloc())?;
-    let incremental = gives_triple::<Incremental>(rt.alloc())?;
-    let short_first = gives_triple::<ShortFirst>(rt.alloc())?;
-    assert_eq!(rt; (scratch, incremental, short_first), (true, true, true));
-    Ok(())
+fn two_of_three_are_false(rt: HostRuntime) {
+    expect(&rt, all_give_triple(rt.alloc()), &(true, true, true));
 }

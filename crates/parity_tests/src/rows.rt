@@ -1,7 +1,7 @@
 //! The kernels beside their plain loops, and worked rows.
+use crate::expecting::{expect, expect_equal};
 use gf2_rows::{add_into, first_outside, next_one, next_outside, ones, parity_and, plain};
 use std::alloc::{AllocError, Global};
-use std::test::Fail;
 
 /// A row of words without a pattern.
 fn row_of(alloc: Global, len: usize, seed: u64) -> Result<Vec<u64>, AllocError> {
@@ -58,12 +58,19 @@ fn agree_at(alloc: Global, len: usize) -> Result<bool, AllocError> {
     )
 }
 
-#[test]
-fn lanes_give_what_plain_loops_give(rt: HostRuntime) -> Result<(), Fail> {
+/// The least number of words at which the kernels do not agree.
+fn first_fault(alloc: Global) -> Result<Option<usize>, AllocError> {
     for len in 0..34 {
-        assert!(rt; agree_at(rt.alloc(), len)?, "at {len}");
+        if !agree_at(alloc, len)? {
+            return Ok(Some(len));
+        }
     }
-    Ok(())
+    Ok(None)
+}
+
+#[test]
+fn lanes_give_what_plain_loops_give(rt: HostRuntime) {
+    expect(&rt, first_fault(rt.alloc()), &None);
 }
 
 /// What is found in a row: outside of a mask and outside of a place, from places on, and from places on outside of a mask.
@@ -94,7 +101,7 @@ fn worked_rows(rt: HostRuntime) {
         Some(575),
         None,
     ];
-    assert_eq!(rt; found(&row, &mask), wanted);
+    expect_equal(&rt, &found(&row, &mask), &wanted);
 }
 
 /// The product of a full row with itself, and with one that lacks a bit.
@@ -107,5 +114,6 @@ fn products() -> (bool, bool) {
 
 #[test]
 fn ones_are_counted(rt: HostRuntime) {
-    assert_eq!(rt; (ones(&[1; 9]), products()), (9, (false, true)));
+    let found = (ones(&[1; 9]), products());
+    expect_equal(&rt, &found, &(9, (false, true)));
 }

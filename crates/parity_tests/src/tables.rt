@@ -1,9 +1,8 @@
 //! Rows of a table, kept by few words and whole, beside plain slices.
-ghost use Rattle.std.specs.Prelude.{◌<◌};
 
+use crate::expecting::expect;
 use gf2_rows::{WordRow, WordTable, plain};
 use std::alloc::{AllocError, Global};
-use std::test::Fail;
 
 /// Whether the bit at `k` is set.
 fn is_set(words: &[u64], k: usize) -> bool {
@@ -147,75 +146,123 @@ fn words_with(alloc: Global, len: usize, word: u64, every: usize) -> Result<Vec<
     Ok(words)
 }
 
-/// Whether the row agrees with a slice after each of the turns, within so many words.
-fn turns_agree(alloc: Global, row: usize, len: usize) -> Result<bool, AllocError>
-    requires { len < 100 }
-{
+/// Whether the row agrees with a slice of few words after each of the turns.
+fn turns_agree_with(
+    alloc: Global,
+    table: &mut WordTable,
+    row: usize,
+    words: &mut [u64],
+    mask: &[u64],
+) -> Result<bool, AllocError> {
+    let len = words.len().min(99);
+    for k in PLACES {
+        if len != 0 {
+            flip_both(table, row, words, k % (64 * len));
+        }
+        if !row_agrees(alloc, table, row, words, mask)? {
+            return Ok(false);
+        }
+    }
+    Ok(true)
+}
+
+/// As `turns_agree_with`, of a slice of this many zeros.
+fn turns_agree(alloc: Global, row: usize, len: usize) -> Result<bool, AllocError> {
     let mut table = WordTable::make(alloc, &[3, 20, 12])?;
     let mut words = words_with(alloc, len, 0, 0)?;
     let mask = words_with(alloc, len, 0xF0F0_F0F0_F0F0_F0F2, 3)?;
-    for k in PLACES {
-        if len != 0 {
-            flip_both(&mut table, row, &mut words, k % (64 * len));
-        }
-        if !row_agrees(alloc, &table, row, &words, &mask)? {
+    turns_agree_with(alloc, &mut table, row, &mut words, &mask)
+}
+
+/// Whether the row agrees with a slice after the sum with a row of which some words are not zero, and after a bit that is set.
+fn sum_agrees(
+    alloc: Global,
+    table: &mut WordTable,
+    row: usize,
+    words: &mut [u64],
+    every: usize,
+) -> Result<bool, AllocError> {
+    let other = words_with(alloc, words.len(), 0x8000_0000_0000_0401, every)?;
+    add_both(table, row, words, &other);
+    put_both(table, row, words, 64 + every % 64);
+    row_agrees(alloc, table, row, words, &other)
+}
+
+/// As `sum_agrees`, after sums with rows of few words and of all.
+fn sums_agree_with(
+    alloc: Global,
+    table: &mut WordTable,
+    row: usize,
+    words: &mut [u64],
+) -> Result<bool, AllocError> {
+    for every in [7, 9, 7, 5, 2] {
+        if !sum_agrees(alloc, table, row, words, every)? {
             return Ok(false);
         }
     }
     Ok(true)
 }
 
-/// Whether the row agrees with a slice after sums, of rows of few words and of all, and after bits that are set.
+/// As `sums_agree_with`, of a slice of this many zeros.
 fn sums_agree(alloc: Global, row: usize, len: usize) -> Result<bool, AllocError> {
     let mut table = WordTable::make(alloc, &[3, 20, 12])?;
     let mut words = words_with(alloc, len, 0, 0)?;
-    for every in [7, 9, 7, 5, 2] {
-        let other = words_with(alloc, len, 0x8000_0000_0000_0401, every)?;
-        add_both(&mut table, row, &mut words, &other);
-        put_both(&mut table, row, &mut words, 64 + every % 64);
-        if !row_agrees(alloc, &table, row, &words, &other)? {
-            return Ok(false);
-        }
-    }
-    Ok(true)
+    sums_agree_with(alloc, &mut table, row, &mut words)
+}
+
+/// As `turns_agree`, of each row.
+fn all_turns_agree(alloc: Global) -> Result<[bool; 3], AllocError> {
+    let first = turns_agree(alloc, 0, 3)?;
+    let second = turns_agree(alloc, 1, 20)?;
+    let third = turns_agree(alloc, 2, 12)?;
+    Ok([first, second, third])
 }
 
 #[test]
-fn turns_are_those_of_slices(rt: HostRuntime) -> Result<(), Fail> {
-    assert!(rt; turns_agree(rt.alloc(), 0, 3)?);
-    assert!(rt; turns_agree(rt.alloc(), 1, 20)?);
-    assert!(rt; turns_agree(rt.alloc(), 2, 12)?);
-    Ok(())
+fn turns_are_those_of_slices(rt: HostRuntime) {
+    expect(&rt, all_turns_agree(rt.alloc()), &[true; 3]);
+}
+
+/// As `sums_agree`, of each row.
+fn all_sums_agree(alloc: Global) -> Result<[bool; 3], AllocError> {
+    let first = sums_agree(alloc, 0, 3)?;
+    let second = sums_agree(alloc, 1, 20)?;
+    let third = sums_agree(alloc, 2, 12)?;
+    Ok([first, second, third])
 }
 
 #[test]
-fn sums_are_those_of_slices(rt: HostRuntime) -> Result<(), Fail> {
-    assert!(rt; sums_agree(rt.alloc(), 0, 3)?);
-    assert!(rt; sums_agree(rt.alloc(), 1, 20)?);
-    assert!(rt; sums_agree(rt.alloc(), 2, 12)?);
-    Ok(())
+fn sums_are_those_of_slices(rt: HostRuntime) {
+    expect(&rt, all_sums_agree(rt.alloc()), &[true; 3]);
+}
+
+/// Whether the rows of a table agree with three slices.
+fn rows_agree(
+    alloc: Global,
+    table: &WordTable,
+    slices: [&[u64]; 3],
+    mask: &[u64],
+) -> Result<bool, AllocError> {
+    Ok(
+        row_agrees(alloc, table, 0, slices[0], mask)?
+            && row_agrees(alloc, table, 1, slices[1], mask)?
+            && row_agrees(alloc, table, 2, slices[2], mask)?,
+    )
 }
 
 /// Whether rows that are laid out whole one after another, with one between that stays as it is, keep their words.
 fn rows_stay_apart(alloc: Global) -> Result<bool, AllocError> {
     let mut table = WordTable::make(alloc, &[20, 20, 20])?;
-    let mut first = words_with(alloc, 20, 0, 0)?;
-    let mut last = words_with(alloc, 20, 0, 0)?;
-    let none = words_with(alloc, 20, 0, 0)?;
     let mask = words_with(alloc, 20, u64::MAX, 2)?;
+    let (mut first, none, mut last) = ([0; 20], [0; 20], [0; 20]);
     for k in PLACES {
         flip_both(&mut table, 2, &mut last, k);
         flip_both(&mut table, 0, &mut first, 1279 - k.min(1279));
     }
-    Ok(
-        row_agrees(alloc, &table, 0, &first, &mask)?
-            && row_agrees(alloc, &table, 1, &none, &mask)?
-            && row_agrees(alloc, &table, 2, &last, &mask)?,
-    )
+    rows_agree(alloc, &table, [&first, &none, &last], &mask)
 }
 
 #[test]
-fn rows_keep_their_words(rt: HostRuntime) -> Result<(), Fail> {
-    assert!(rt; rows_stay_apart(rt.alloc())?);
-    Ok(())
+fn rows_keep_their_words(rt: HostRuntime) {
+    expect(&rt, rows_stay_apart(rt.alloc()), &true);
 }
