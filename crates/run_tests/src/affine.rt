@@ -19,7 +19,7 @@ const TWO_TOLD: &str = "s AFFINE 2\nt 1 -2 -3 0\nb 1 2 0\nb 3 0\n";
 /// A formula, and what is told of its parities.
 type Told = (&'static str, &'static str);
 
-const TOLD: [Told; 13] = [
+static TOLD: [Told; 13] = [
     (TWO, TWO_TOLD),
     (TRIANGLE, "s AFFINE NONE\n"),
     ("p cnf 0 0\n", "s AFFINE 0\nt 0\n"),
@@ -54,7 +54,7 @@ const TOLD: [Told; 13] = [
 ];
 
 /// Formulas whose clauses and assumptions leave less than their parities do, or nothing.
-const WITH_CLAUSES: [Told; 3] = [
+static WITH_CLAUSES: [Told; 3] = [
     (SQUARE, "s AFFINE 2\nt -1 -2 0\nb 1 0\nb 2 0\n"),
     ("p cnf 3 3\n-1 0\nx1 2 0\na -2 3 0\n", TWO_TOLD),
     ("p cnf 3 3\n0\nx1 2 0\na 1 -1 0\n", TWO_TOLD),
@@ -150,7 +150,7 @@ fn an_answer_of_nine_thousand_bytes_is_told_whole(rt: HostRuntime) {
 /// A formula that is refused, the status, and the line that tells why.
 type Refused = (&'static str, u8, &'static str);
 
-const REFUSED: [Refused; 6] = [
+static REFUSED: [Refused; 6] = [
     ("", 3, "error: formula F1 at byte 0\n"),
     ("p cnf x 1\n", 3, "error: formula F2 at byte 6\n"),
     ("p cnf 2 1\nx1 a 0\n", 3, "error: formula F3 at byte 13\n"),
@@ -231,7 +231,7 @@ fn a_formula_comes_from_standard_input(rt: HostRuntime) {
     expect(&rt, is_told_of_input(rt.alloc()), &true);
 }
 
-const TASKS: [(Task<'static>, u8); 2] = [
+static TASKS: [(Task<'static>, u8); 2] = [
     (
         Task {
             line: AFFINE,
@@ -257,7 +257,7 @@ fn each_call_of_telling_solutions_fails_in_turn(rt: HostRuntime) {
     expect_none(&rt, written, faults.as_str());
 }
 
-const LINES: [Row; 9] = [
+static LINES: [Row; 9] = [
     (AFFINE, 17, 0),
     (AFFINE, 16, 9),
     (&["cxsat", "affine"], 17, 2),

@@ -19,7 +19,7 @@ const FULL: &str = "p cnf 268435455 1\nx1 2 3 4 5 0\n";
 /// A formula, and what the Answer and the Proof port have of it.
 type Blasted = (&'static str, &'static str, &'static str);
 
-const BLASTED: [Blasted; 6] = [
+static BLASTED: [Blasted; 6] = [
     (
         TWO,
         "c variables 2\nc clauses 2\ns BLASTED\n",
@@ -97,7 +97,7 @@ fn parities_become_clauses(rt: HostRuntime) {
 /// A formula that is not put into clauses, the status, and the line that tells why.
 type Refused = (&'static str, u8, &'static str);
 
-const REFUSED: [Refused; 4] = [
+static REFUSED: [Refused; 4] = [
     (FULL, 9, "error: limit L3 at constraint 1\n"),
     (
         "p cnf 268435454 3\nx1 2 3 4 5 0\n1 0\nx1 2 3 4 5 0\n",
@@ -156,7 +156,7 @@ fn a_full_proof_port_has_a_prefix(rt: HostRuntime) {
 
 /// Where there are too many variables no call that writes is made but those of the message: none that fails ends the run
 /// with another status than a failed read does.
-const TASKS: [(Task<'static>, u8); 2] = [
+static TASKS: [(Task<'static>, u8); 2] = [
     (
         Task {
             line: BLAST,
@@ -182,7 +182,7 @@ fn each_call_of_a_blasting_fails_in_turn(rt: HostRuntime) {
     expect_none(&rt, written, faults.as_str());
 }
 
-const LINES: [Row; 6] = [
+static LINES: [Row; 6] = [
     (&["cxsat", "blast", "f", "p"], u32::MAX, 0),
     (&["cxsat", "blast", "f", "f"], u32::MAX, 2),
     (&["cxsat", "blast", "f"], u32::MAX, 2),
@@ -202,7 +202,7 @@ fn words_of_blast_are_refused_or_taken(rt: HostRuntime) {
 // none the third, whose last parity is the sum of the two before with the other right side.
 
 /// Formulas with wide parities, and whether values meet them: the statuses of a search.
-const WIDE: [(&str, u8); 5] = [
+static WIDE: [(&str, u8); 5] = [
     (
         "p cnf 9 4\nx1 2 3 4 5 6 7 0\nx-2 4 6 8 9 0\n1 -2 3 0\n-4 5 9 0\n",
         10,
@@ -216,14 +216,20 @@ const WIDE: [(&str, u8); 5] = [
     (TRIANGLE, 20),
 ];
 
-/// The status of a search over the formula in clauses.
-fn status_in_clauses(alloc: Global, formula: &str) -> Result<u8, AllocError> {
-    let made = run(alloc, formula, b"", BLAST, AMPLE)?;
-    let Ok(text) = std::str::from_utf8(made.proof()) else {
+/// The status of a search over the formula of these bytes, or 0 if they are no text.
+fn status_over(alloc: Global, bytes: &[u8]) -> Result<u8, AllocError> {
+    let Ok(text) = std::str::from_utf8(bytes) else {
         return Ok(0);
     };
     let line = ["cxsat", "solve", "f"];
-    Ok(run(alloc, text, b"", line.as_slice(), AMPLE)?.status)
+    let solved = run(alloc, text, b"", line.as_slice(), AMPLE)?;
+    Ok(solved.status)
+}
+
+/// As `status_over`, of the formula in clauses.
+fn status_in_clauses(alloc: Global, formula: &str) -> Result<u8, AllocError> {
+    let made = run(alloc, formula, b"", BLAST, AMPLE)?;
+    status_over(alloc, made.proof())
 }
 
 /// Writes the status of a search over a formula in clauses, if it is not that of a search over the formula.

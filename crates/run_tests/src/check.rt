@@ -10,7 +10,7 @@ use std::alloc::{AllocError, Global};
 const ASSUMING: &str = "p cnf 2 2\nx1 2 0\na 1 2 0\n";
 
 /// Formulas, each with a proof of it.
-const VERIFIED: [(&str, &str); 13] = [
+static VERIFIED: [(&str, &str); 13] = [
     (TRIANGLE, "x 4 0 1 2 3 0\ni 1 0 4 0\n"),
     ("p cnf 2 1\nx0\n", "i 1 0 1 0\n"),
     (SQUARE, "5 2 0 1 2 0\n6 0 5 3 4 0"),
@@ -70,7 +70,7 @@ fn proofs_are_verified(rt: HostRuntime) {
     expect_none(&rt, written, others.as_str());
 }
 
-const REFUSED: [Refused; 21] = [
+static REFUSED: [Refused; 21] = [
     (ASSUMING, "i 1 1 2 0 1 0\n", "step 2 P11"),
     (TRIANGLE, "x 4 0 1 2 0\n", "step 1 P7"),
     (TRIANGLE, "x 4 1 2 0 1 1 0\n", "step 1 P7"),

@@ -14,7 +14,7 @@ use std::alloc::{AllocError, Global};
 /// A kind, a size and a seed, and the lines of their demonstration.
 type Shown = (&'static str, &'static str, &'static str, &'static str);
 
-const SHOWN: [Shown; 4] = [
+static SHOWN: [Shown; 4] = [
     (
         "even",
         "4",

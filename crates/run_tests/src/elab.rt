@@ -20,7 +20,7 @@ const CLAUSE: &str = "p cnf 2 1\n1 2 0\n";
 
 const PARITY: &str = "p cnf 2 1\nx1 2 0\n";
 
-const REFUSED: [Refused; 12] = [
+static REFUSED: [Refused; 12] = [
     (CLAUSE, "z 1 0\n", "step 1 E0 at byte 0"),
     (CLAUSE, "o 1 3 0\n", "step 1 E1"),
     (CLAUSE, "o 1 1 2 0\no 1 1 2 0\n", "step 2 E2"),
@@ -94,7 +94,7 @@ const STRAIGHT: &str = "5 2 0 1 2 0\n6 0 5 3 4 0\n";
 /// What follows the four clauses, and the proof. Hints name each clause by the id that it has by then.
 type Moved = (&'static str, &'static str);
 
-const MOVED: [Moved; 10] = [
+static MOVED: [Moved; 10] = [
     (
         "r 0\nr x 0\na 20 2 0 l 1 2 0\na 21 0 l 20 3 4 0\n",
         STRAIGHT,
@@ -218,7 +218,7 @@ fn chains_are_found_over_moved_clauses(rt: HostRuntime) {
     expect(&rt, both_prove(rt.alloc()), &(true, true));
 }
 
-const REFUSED_MOVES: [Refused; 12] = [
+static REFUSED_MOVES: [Refused; 12] = [
     (CLAUSE, "r 1 0\n", "step 1 E0 at byte 4"),
     (CLAUSE, "r x 1 2 3 0\n", "step 1 E0 at byte 10"),
     (CLAUSE, "r 1 2 0\n", "step 1 E4"),
@@ -259,7 +259,7 @@ const OF_SOLVED: &str =
     "i x 1 1 2 0 1 2 0\ni x 2 1 3 0 5 6 0\ni x 3 2 3 0 3 4 0\nx 4 0 1 2 3 0\ni 7 0 4 0\n";
 
 /// This log with moves, as `bench/make/moves.py` draws them from seeds.
-const SOLVED_AND_MOVED: [&str; 3] = [
+static SOLVED_AND_MOVED: [&str; 3] = [
     "o 1 1 2 0\no 2 -1 -2 0\no 3 2 3 0\no 4 -2 -3 0\no 5 1 3 0\no 6 -1 -3 0\nr x 0\ni x 1 1 2 0 l 1 2 0\nr 5 5 0\ni x 2 1 3 0 l 5 6 0\nr x 2 2 1 5 0\ni x 3 2 3 0 l 3 4 0\na x 7 0 l 5 2 3 0\ni 8 0 l 7 0\n",
     "o 1 1 2 0\no 2 -1 -2 0\nr 1 2 2 5 0\no 3 2 3 0\no 4 -2 -3 0\nr 3 2 4 3 2 4 0\no 6 1 3 0\no 7 -1 -3 0\ni x 1 1 2 0 l 4 5 0\ni x 2 1 3 0 l 6 7 0\nr x 2 3 1 6 0\ni x 7 2 3 0 l 2 3 0\na x 8 0 l 6 3 7 0\ni 8 0 l 8 0\n",
     "o 1 1 2 0\nr 1 2 0\no 3 -1 -2 0\nr 3 2 2 6 0\no 3 2 3 0\nr 3 2 2 9 6 3 0\no 4 -2 -3 0\nr 3 2 2 4 9 9 4 11 0\no 5 1 3 0\nr 4 4 9 2 5 11 2 5 11 9 0\no 6 -1 -3 0\nr 4 9 9 4 2 5 5 11 11 6 6 14 0\ni x 1 1 2 0 l 11 5 0\nr 6 9 5 16 4 4 9 11 11 14 14 6 0\ni x 2 1 3 0 l 9 6 0\nr 9 14 4 16 14 17 16 19 11 9 6 4 0\ni x 3 2 3 0 l 9 16 0\nr 9 19 16 9 14 4 19 16 17 22 4 17 0\na x 7 0 l 1 2 3 0\nr 19 17 17 9 9 4 16 22 22 16 4 19 0\ni 8 0 l 7 0\nr 9 19 19 16 22 8 16 17 8 22 17 24 0\n",

@@ -76,8 +76,7 @@ fn put_port(alloc: Global, text: &mut String, bytes: &[u8]) -> Result<(), AllocE
 /// Writes a run and how it ended.
 fn put_end(alloc: Global, text: &mut String, task: Task, ended: &Ended) -> Result<(), AllocError> {
     let (line, formula, second) = (task.line, task.formula, task.second);
-    let head = format!(in alloc; "{line:?}\n{formula}{second}status {}\n", ended.status)?;
-    text.push_str(head.as_str())?;
+    writeln!(text, "{line:?}\n{formula}{second}status {}", ended.status)?;
     put_port(alloc, text, ended.answer())?;
     put_port(alloc, text, ended.message())?;
     put_port(alloc, text, ended.proof())
@@ -115,7 +114,21 @@ pub(crate) fn answers(ended: &Ended, status: u8, answer: &str) -> bool {
     ended.status == status && ended.answer() == answer.as_bytes()
 }
 
-/// Whether a task ends with this status and this answer, in pieces of any length.
+/// Whether a task ends with this status and this answer within these bounds.
+fn is_answered_within(
+    alloc: Global,
+    task: Task,
+    bounds: Bounds,
+    status: u8,
+    answer: &str,
+) -> Result<bool, AllocError>
+    requires { 1 ≤ bounds.piece }
+{
+    let ended = run_task(alloc, task, bounds)?;
+    Ok(answers(&ended, status, answer))
+}
+
+/// As `is_answered_within`, in pieces of any length.
 pub(crate) fn is_answered(
     alloc: Global,
     task: Task,
@@ -124,8 +137,7 @@ pub(crate) fn is_answered(
     answer: &str,
 ) -> Result<bool, AllocError> {
     for piece in PIECES {
-        let ended = run_task(alloc, task, in_pieces(bounds, piece))?;
-        if !answers(&ended, status, answer) {
+        if !is_answered_within(alloc, task, in_pieces(bounds, piece), status, answer)? {
             return Ok(false);
         }
     }

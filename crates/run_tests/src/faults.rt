@@ -7,7 +7,7 @@ use cx_desk::RepeatDesk;
 use std::alloc::{AllocError, Global};
 
 /// The commands whose calls fail, each with what its run comes to where none does.
-const TASKS: [(Task<'static>, u8); 5] = [
+static TASKS: [(Task<'static>, u8); 5] = [
     (
         Task {
             line: &["cxsat", "solve", "f"],

@@ -6,7 +6,7 @@ use std::alloc::{AllocError, Global};
 /// A parity and a clause that the values 1 and -2 alone meet.
 const FORMULA: &str = "p cnf 2 2\nx1 2 0\n1 0\n";
 
-const REFUSED: [Refused; 6] = [
+static REFUSED: [Refused; 6] = [
     (FORMULA, "s UNSATISFIABLE\n", "A1"),
     (FORMULA, "s SATISFIABLE\nv 1 q 0\n", "A2 at byte 18"),
     (FORMULA, "s SATISFIABLE\nv 1 0\n", "A3 variable 2"),

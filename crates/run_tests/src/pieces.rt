@@ -108,7 +108,7 @@ fn told_so(
     Ok([one, two, three, many])
 }
 
-const ROWS: [Row; 9] = [
+static ROWS: [Row; 9] = [
     (CHECK, TRIANGLE, "c a\nx 4 0 1 2 3 0\ni 1 0 4 0", 100),
     (CHECK, SQUARE, "5 2 0 1 2 0\n6 0 5 3 4 zzz\n", 100),
     (CHECK, SQUARE, "5 2 0 1\n", 100),
@@ -133,7 +133,7 @@ fn pieces_of_any_length_end_the_same(rt: HostRuntime) {
     expect(&rt, told, &[true; 4]);
 }
 
-const ROWS_WITH_MORE: [Row; 10] = [
+static ROWS_WITH_MORE: [Row; 10] = [
     (CHECK, SQUARE, "5 2 0 1 2 0\n6 0 5 3 4 0\nzzz\n", 38),
     (CHECK, SQUARE, "5 2 0 1 2 0\n6 0 5 3 4 0\nzzz\n", 37),
     (CHECK, EMPTY, "2 0 1 0\nzzz\n", 12),
@@ -154,7 +154,7 @@ fn what_stands_behind_the_last_step_counts(rt: HostRuntime) {
     expect(&rt, told, &[true; 4]);
 }
 
-const PRINTED: [Row; 3] = [
+static PRINTED: [Row; 3] = [
     (
         ELAB,
         SQUARE,

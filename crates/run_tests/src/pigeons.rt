@@ -50,7 +50,7 @@ fn put_holes(alloc: Global, text: &mut String, holes: u8, pigeon: u8) -> Result<
 }
 
 /// Each of the pigeons in some hole, and no two in one: a pigeon more than holes.
-pub(crate) fn pigeonholes(alloc: Global, holes: u8) -> Result<String, AllocError> {
+fn pigeonholes(alloc: Global, holes: u8) -> Result<String, AllocError> {
     let many = u32::from(holes);
     let (pigeons, pairs) = (many + 1, many * (many + 1) / 2);
     let (variables, clauses) = (many * pigeons, pigeons + many * pairs);
@@ -60,6 +60,16 @@ pub(crate) fn pigeonholes(alloc: Global, holes: u8) -> Result<String, AllocError
         put_holes(alloc, &mut text, holes, pigeon)?;
     }
     Ok(text)
+}
+
+/// How a command ends of which `f` is the formula of that many pigeons.
+pub(crate) fn run_over_pigeons(
+    alloc: Global,
+    holes: u8,
+    line: &[&str],
+) -> Result<Ended, AllocError> {
+    let formula = pigeonholes(alloc, holes)?;
+    run(alloc, formula.as_str(), b"", line, WIDE)
 }
 
 /// Whether the last mark of a conflict in the log is this line.
@@ -99,9 +109,8 @@ fn eight_pigeons_are_refuted_or_the_budget_is_spent(rt: HostRuntime) {
 
 /// The status of a search over this many holes, with a budget that is not spent.
 fn status_over(alloc: Global, holes: u8) -> Result<u8, AllocError> {
-    let formula = pigeonholes(alloc, holes)?;
     let line = ["cxsat", "solve", "f", "--conflicts", "100000"];
-    let solved = run(alloc, formula.as_str(), b"", line.as_slice(), WIDE)?;
+    let solved = run_over_pigeons(alloc, holes, line.as_slice())?;
     Ok(solved.status)
 }
 

@@ -7,7 +7,7 @@ use std::alloc::{AllocError, Global};
 /// A formula, the status with which it is refused, and the line that tells why.
 type Offence = (&'static str, u8, &'static str);
 
-const OFFENCES: [Offence; 13] = [
+static OFFENCES: [Offence; 13] = [
     ("", 3, "error: formula F1 at byte 0\n"),
     ("1 0\n", 3, "error: formula F1 at byte 0\n"),
     ("p cnf x 1\n", 3, "error: formula F2 at byte 6\n"),
@@ -133,7 +133,7 @@ fn texts_over_the_limit_and_a_full_answer_port_are_refused(rt: HostRuntime) {
     expect_none(&rt, written, others.as_str());
 }
 
-const LINES: [Row; 10] = [
+static LINES: [Row; 10] = [
     (&["cxsat", "check", "f", "s"], u32::MAX, 0),
     (&["cxsat", "slove", "f"], u32::MAX, 2),
     (&["cxsat", "check", "f", "f"], u32::MAX, 2),

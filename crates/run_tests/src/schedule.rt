@@ -1,13 +1,13 @@
 //! The search follows its schedule, as its log shows: clauses are deleted just after the conflicts where a restart is due
 //! and many are learned.
-use crate::desk::{Ended, run};
+use crate::desk::Ended;
 use crate::expecting::expect;
-use crate::pigeons::{WIDE, pigeonholes};
+use crate::pigeons::run_over_pigeons;
 use std::alloc::{AllocError, Global};
 
 /// Counted conflicts, in hundreds up to 50, after which a restart is due: the sums of the sequence of Luby, Sinclair and
 /// Zuckerman, 1 1 2 1 1 2 4 1 1 2 1 1 2 4 8 and so on.
-pub(crate) const RESTARTS: [u64; 27] = [
+pub(crate) static RESTARTS: [u64; 27] = [
     1, 2, 4, 5, 6, 8, 12, 13, 14, 16, 17, 18, 20, 24, 32, 33, 34, 36, 37, 38, 40, 44, 45, 46, 48,
     49, 50,
 ];
@@ -112,9 +112,8 @@ fn told_when_spent(alloc: Global, solved: &Ended) -> Result<(bool, u64, bool), A
 
 /// As `told_when_spent`, of a search over pigeonholes with a budget of 5,000 conflicts.
 fn told_of_pigeons(alloc: Global, holes: u8) -> Result<(bool, u64, bool), AllocError> {
-    let formula = pigeonholes(alloc, holes)?;
     let line = ["cxsat", "solve", "f", "--proof", "l", "--conflicts", "5000"];
-    let solved = run(alloc, formula.as_str(), b"", line.as_slice(), WIDE)?;
+    let solved = run_over_pigeons(alloc, holes, line.as_slice())?;
     told_when_spent(alloc, &solved)
 }
 

@@ -82,7 +82,7 @@ fn put_other_answers(alloc: Global, others: &mut String, cases: &[Case]) -> Resu
     Ok(())
 }
 
-const ANSWERS: [Case; 14] = [
+static ANSWERS: [Case; 14] = [
     ("p cnf 0 0\n", "7", 10, "s SATISFIABLE\nv 0\n"),
     (CHAIN, "7", 10, "s SATISFIABLE\nv 1 -2 0\n"),
     (
@@ -148,7 +148,7 @@ fn put_other_tidied(alloc: Global, others: &mut String, case: &Case) -> Result<(
 }
 
 /// Formulas with assumption constraints: the literals that fail come by rising variables, and the two of a variable that is assumed with both signs.
-const ASSUMED: [Case; 10] = [
+static ASSUMED: [Case; 10] = [
     (
         "p cnf 2 2\nx1 2 0\na 1 2 0\n",
         "7",
@@ -219,7 +219,7 @@ fn assumed_literals_that_fail_are_told(rt: HostRuntime) {
 }
 
 /// Formulas that propagation refutes at level 0, with assumptions that have no part in it, also where one is false there.
-const REFUTED_ALONE: [Case; 13] = [
+static REFUTED_ALONE: [Case; 13] = [
     (
         "p cnf 2 2\n0\na 1 -2 0\n",
         "1",
@@ -313,7 +313,7 @@ fn no_assumed_literal_fails_where_the_formula_is_refuted_without_a_decision(rt: 
 }
 
 /// Formulas of which some assumed literals fail, and others that are decided before these have no part in it.
-const PARTLY_FAILED: [Case; 10] = [
+static PARTLY_FAILED: [Case; 10] = [
     // 2 excludes 4
     (
         "p cnf 4 2\n-2 -4 0\na 1 2 3 4 0\n",
@@ -581,7 +581,7 @@ fn a_full_answer_port_is_a_write_fault(rt: HostRuntime) {
     expect(&rt, is_so, &true);
 }
 
-const LINES: [Row; 8] = [
+static LINES: [Row; 8] = [
     (SOLVE, 21, 10),
     (SOLVE, 20, 9),
     (

@@ -1,7 +1,6 @@
 //! `solve --inprocess` writes a tidy line for each restart, in time for the next mark.
-use crate::desk::run;
 use crate::expecting::expect;
-use crate::pigeons::{WIDE, pigeonholes};
+use crate::pigeons::run_over_pigeons;
 use crate::schedule::RESTARTS;
 use std::alloc::{AllocError, Global};
 
@@ -65,10 +64,19 @@ impl Lines {
     }
 }
 
-/// The status of a search of 1,000 conflicts over pigeonholes that tidies, whether its tidy lines are in time, and how
-/// many marks and tidy lines there are.
-fn tidied_pigeons(alloc: Global) -> Result<(u8, bool, u64, usize), AllocError> {
-    let formula = pigeonholes(alloc, 10)?;
+/// Whether the tidy lines of a log are in time, and how many marks and tidy lines there are.
+fn told_of(alloc: Global, log: &[u8]) -> Result<(bool, u64, usize), AllocError> {
+    let log = String::from_utf8_lossy(alloc, log)?;
+    let mut lines = Lines {
+        conflicts: 0,
+        tidied: 0,
+    };
+    let in_time = lines.take_all(log.as_str());
+    Ok((in_time, lines.conflicts, lines.tidied))
+}
+
+/// The status of a search of 1,000 conflicts over pigeonholes that tidies, and what `told_of` finds in its log.
+fn tidied_pigeons(alloc: Global) -> Result<(u8, (bool, u64, usize)), AllocError> {
     let line = [
         "cxsat",
         "solve",
@@ -79,17 +87,11 @@ fn tidied_pigeons(alloc: Global) -> Result<(u8, bool, u64, usize), AllocError> {
         "--conflicts",
         "1000",
     ];
-    let solved = run(alloc, formula.as_str(), b"", line.as_slice(), WIDE)?;
-    let log = String::from_utf8_lossy(alloc, solved.proof())?;
-    let mut lines = Lines {
-        conflicts: 0,
-        tidied: 0,
-    };
-    let in_time = lines.take_all(log.as_str());
-    Ok((solved.status, in_time, lines.conflicts, lines.tidied))
+    let solved = run_over_pigeons(alloc, 10, line.as_slice())?;
+    Ok((solved.status, told_of(alloc, solved.proof())?))
 }
 
 #[test]
 fn each_restart_has_its_tidy_line(rt: HostRuntime) {
-    expect(&rt, tidied_pigeons(rt.alloc()), &(0, true, 1000, 6));
+    expect(&rt, tidied_pigeons(rt.alloc()), &(0, (true, 1000, 6)));
 }

@@ -26,7 +26,7 @@ const SQUARE_CORE: &str = "c core clauses 1 2 3 4 0\nc core parities 0\ns TRIMME
 /// A formula, a proof of it, what is left of that, and the lines of the core.
 type Trimming = (&'static str, &'static str, &'static str, &'static str);
 
-const TRIMMED: [Trimming; 8] = [
+static TRIMMED: [Trimming; 8] = [
     (SQUARE, SQUARE_PROOF, SQUARE_PROOF, SQUARE_CORE),
     (
         SQUARE,
@@ -113,7 +113,7 @@ fn proofs_are_trimmed(rt: HostRuntime) {
     expect_none(&rt, written, others.as_str());
 }
 
-const REFUSED: [Refused; 4] = [
+static REFUSED: [Refused; 4] = [
     (
         TRIANGLE_AND_CLAUSE,
         "x 4 0 1 2 3 0\ni 1 0 4 0\n",
@@ -180,29 +180,45 @@ fn core_of(alloc: Global, formula: &str, answer: &str) -> Result<String, AllocEr
     Ok(text)
 }
 
-/// Writes the formula of the core, unless `solve` says that no values meet it.
-fn put_met(
-    alloc: Global,
-    others: &mut String,
-    (formula, second, _left, _answer): Trimming,
-) -> Result<(), AllocError> {
+/// As `core_of`, of an answer in bytes.
+fn core_in(alloc: Global, formula: &str, answer: &[u8]) -> Result<String, AllocError> {
+    let answer = String::from_utf8_lossy(alloc, answer)?;
+    core_of(alloc, formula, answer.as_str())
+}
+
+/// The formula of the core that `trim` tells.
+fn told_core(alloc: Global, formula: &str, second: &str) -> Result<String, AllocError> {
     let task = Task {
         line: TRIM.line,
         formula,
         second,
     };
     let ended = run_task(alloc, task, AMPLE)?;
-    let answer = String::from_utf8_lossy(alloc, ended.answer())?;
-    let core = core_of(alloc, formula, answer.as_str())?;
-    let solving = Task {
+    core_in(alloc, formula, ended.answer())
+}
+
+/// Writes a formula, unless `solve` says that no values meet it.
+fn put_if_met(alloc: Global, others: &mut String, formula: &str) -> Result<(), AllocError> {
+    let task = Task {
         line: &["cxsat", "solve", "f"],
-        formula: core.as_str(),
+        formula,
         second: "",
     };
-    if run_task(alloc, solving, AMPLE)?.status != 20 {
-        others.push_str(core.as_str())?;
+    let ended = run_task(alloc, task, AMPLE)?;
+    if ended.status == 20 {
+        return Ok(());
     }
-    Ok(())
+    others.push_str(formula)
+}
+
+/// As `put_if_met`, of the formula of a core.
+fn put_met(
+    alloc: Global,
+    others: &mut String,
+    (formula, second, _left, _answer): Trimming,
+) -> Result<(), AllocError> {
+    let core = told_core(alloc, formula, second)?;
+    put_if_met(alloc, others, core.as_str())
 }
 
 fn put_all_met(alloc: Global, others: &mut String, cases: &[Trimming]) -> Result<(), AllocError> {
@@ -268,7 +284,7 @@ fn a_full_port_is_a_write_fault(rt: HostRuntime) {
 }
 
 /// Command lines whose names for `trim` are not plain.
-const UNPLAIN: [&[&str]; 4] = [
+static UNPLAIN: [&[&str]; 4] = [
     &["cxsat", "trim", "f", "s"],
     &["cxsat", "trim", "f", "s", "s"],
     &["cxsat", "trim", "f", "s", "f"],

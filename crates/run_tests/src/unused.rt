@@ -1,5 +1,5 @@
 //! Values of formulas that use few of the variables that their headers count.
-ghost use Rattle.std.specs.Prelude.{◌≤◌};
+ghost use Rattle.std.specs.Prelude.{◌≡◌, ◌≤◌, [], OnOk};
 ghost use Rattle.cx_base.specs.declared.literal.TheConstants.{MAX_VARIABLE};
 
 use crate::expecting::expect;
@@ -9,17 +9,23 @@ use gauss_incremental::ShortFirst;
 use log_text::NoLog;
 use std::alloc::{AllocError, Global};
 
-/// A clause that makes variable 2 true, and a parity that makes variable 1 true with it.
-fn two_and_one(alloc: Global, vars: u32) -> Result<Formula, AllocError>
-    requires { vars ≤ MAX_VARIABLE }
+/// Adds a clause that makes variable 2 true, and a parity that makes variable 1 true with it.
+fn add_two_and_one(builder: &mut FormulaBuilder) -> Result<(), AllocError>
+    ensures { OnOk result (builder.new.unfinished ≡ []) }
 {
     let two = Lit::new(Var::new(2), false);
-    let mut builder = FormulaBuilder::new(alloc);
     builder.push(two)?;
     builder.end_clause()?;
     builder.push(Lit::new(Var::new(1), true))?;
     builder.push(two)?;
-    builder.end_parity()?;
+    builder.end_parity()
+}
+
+fn two_and_one(alloc: Global, vars: u32) -> Result<Formula, AllocError>
+    requires { vars ≤ MAX_VARIABLE }
+{
+    let mut builder = FormulaBuilder::new(alloc);
+    add_two_and_one(&mut builder)?;
     Ok(builder.finish(vars))
 }
 
@@ -28,7 +34,7 @@ fn written(alloc: Global, values: &[bool]) -> Result<String, AllocError> {
     let mut text = format!(in alloc; "{} values, true:", values.len())?;
     for index in 0..values.len() {
         if values[index] {
-            text.push_str(format!(in alloc; " {}", index as u64 + 1)?.as_str())?;
+            write!(text, " {}", index as u64 + 1)?;
         }
     }
     Ok(text)
