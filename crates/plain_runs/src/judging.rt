@@ -1,16 +1,16 @@
 //! Logs of drawn searches, and the same logs with one change: the plain judge and the elaborator judge each log alike.
 use crate::changing::{LineChange, changed};
 use crate::drawing::{next, some_formula};
+use crate::expecting::expect_none;
 use crate::log_lines::{lines_of, steps_of};
 use crate::searching::{SearchAnswer, searched};
-use cx_base::Formula;
+use cx_base::{Formula, LogEvent};
 use cx_semantics::Cause;
 use fratx_elab::{Elab, Joined, elaborate};
 use log_text::LogText;
 use plain_tests::judged::{Judged, judge};
 use proof_text::ListProof;
 use std::alloc::{AllocError, Global};
-use std::test::Fail;
 
 /// How the elaborator judges the log of a text.
 fn elaborated(alloc: Global, formula: &Formula, text: &[u8]) -> Result<Option<Judged>, AllocError> {
@@ -37,7 +37,20 @@ struct JudgedCounts {
     refused: u64,
 }
 
-/// Judges a log of this many steps in both ways, if its text has just steps. Writes it where the two differ.
+/// The plain judgement of the log of a text, and how many steps it has, if the text has just steps.
+fn judged(
+    alloc: Global,
+    formula: &Formula,
+    text: &[u8],
+) -> Result<Option<(Judged, u64)>, AllocError> {
+    let Some(steps) = steps_of(alloc, text)? else {
+        return Ok(None);
+    };
+    let judged = judge(alloc, formula, &steps)?;
+    Ok(Some((judged, steps.len() as u64)))
+}
+
+/// Judges the log of a text in both ways, if the text has just steps. Writes the judgements where the two differ.
 fn put_other(
     alloc: Global,
     others: &mut String,
@@ -45,16 +58,15 @@ fn put_other(
     text: &[u8],
     counts: &mut JudgedCounts,
 ) -> Result<(), AllocError> {
-    let Some(steps) = steps_of(alloc, text)? else {
+    let Some((judged, count)) = judged(alloc, formula, text)? else {
         return Ok(());
     };
-    let judged = judge(alloc, formula, &steps)?;
     match elaborated(alloc, formula, text)? {
         Some(other) if other == judged => {}
         other => return writeln!(others, "{judged:?} {other:?}"),
     }
     if let Judged::Refused(number, _) = judged {
-        if number <= steps.len() as u64 {
+        if number <= count {
             counts.refused = counts.refused.saturating_add(1);
         }
     }
@@ -111,30 +123,78 @@ fn put_changed(
     Ok(())
 }
 
-/// Judges the log of a search over a drawn formula, and then the log with changes.
+/// A formula that a seed draws, and what a search over it answered.
+#[derive(Clone, Copy, Drop)]
+struct Search<'f> {
+    formula: &'f Formula,
+    seed: u64,
+    answer: SearchAnswer,
+}
+
+/// Judges the text of a search's log, and then the text with changes. Writes the judgement if it does not fit the answer.
+fn put_text(
+    alloc: Global,
+    others: &mut String,
+    search: Search<'_>,
+    text: &[u8],
+    counts: &mut JudgedCounts,
+) -> Result<(), AllocError> {
+    let Search {
+        formula,
+        seed,
+        answer,
+    } = search;
+    match judged(alloc, formula, text)? {
+        Some((judged, count)) if fits(answer, judged, count) => {}
+        Some((judged, _)) => writeln!(others, "seed {seed}: {answer:?} {judged:?}")?,
+        None => return writeln!(others, "no steps from {seed}"),
+    }
+    count(counts, answer);
+    put_other(alloc, others, formula, text, counts)?;
+    put_changed(alloc, others, formula, text, counts)
+}
+
+/// As `put_text`, of the events of a search's log.
+fn put_log(
+    alloc: Global,
+    others: &mut String,
+    search: Search<'_>,
+    events: &[LogEvent],
+    counts: &mut JudgedCounts,
+) -> Result<(), AllocError> {
+    let text = lines_of(alloc, events)?;
+    put_text(alloc, others, search, text.as_bytes(), counts)
+}
+
+/// As `put_log`, of a search over a formula.
 fn put_searched(
+    alloc: Global,
+    others: &mut String,
+    formula: &Formula,
+    seed: u64,
+    counts: &mut JudgedCounts,
+) -> Result<(), AllocError> {
+    let budget = if seed % 2 == 0 { 1 } else { 100 };
+    let Some((answer, log)) = searched(alloc, formula, budget)? else {
+        return writeln!(others, "no log from {seed}");
+    };
+    let search = Search {
+        formula,
+        seed,
+        answer,
+    };
+    put_log(alloc, others, search, log.events(), counts)
+}
+
+/// As `put_searched`, of the formula of a seed.
+fn put_searched_of(
     alloc: Global,
     others: &mut String,
     seed: u64,
     counts: &mut JudgedCounts,
 ) -> Result<(), AllocError> {
     let formula = some_formula(alloc, seed, 8, 20 + seed % 3 * 12)?;
-    let budget = if seed % 2 == 0 { 1 } else { 100 };
-    let Some((answer, log)) = searched(alloc, &formula, budget)? else {
-        return writeln!(others, "no log from {seed}");
-    };
-    let text = lines_of(alloc, log.events())?;
-    let text = text.as_bytes();
-    let Some(steps) = steps_of(alloc, text)? else {
-        return writeln!(others, "no steps from {seed}");
-    };
-    let judged = judge(alloc, &formula, &steps)?;
-    if !fits(answer, judged, steps.len() as u64) {
-        writeln!(others, "seed {seed}: {answer:?} {judged:?}")?;
-    }
-    count(counts, answer);
-    put_other(alloc, others, &formula, text, counts)?;
-    put_changed(alloc, others, &formula, text, counts)
+    put_searched(alloc, others, &formula, seed, counts)
 }
 
 fn put_others(alloc: Global, others: &mut String, seeds: u64) -> Result<JudgedCounts, AllocError> {
@@ -145,23 +205,24 @@ fn put_others(alloc: Global, others: &mut String, seeds: u64) -> Result<JudgedCo
         refused: 0,
     };
     for seed in 1..=seeds {
-        put_searched(alloc, others, seed, &mut counts)?;
+        put_searched_of(alloc, others, seed, &mut counts)?;
     }
     Ok(counts)
 }
 
+/// As `put_others`. Writes the counts too if they are small.
+fn put_others_and_counts(alloc: Global, others: &mut String, seeds: u64) -> Result<(), AllocError> {
+    let counts = put_others(alloc, others, seeds)?;
+    if counts.solved > 3 && counts.refuted > 3 && counts.unknown > 1 && counts.refused > 12 {
+        return Ok(());
+    }
+    let (solved, refuted, unknown) = (counts.solved, counts.refuted, counts.unknown);
+    writeln!(others, "{solved} {refuted} {unknown} {}", counts.refused)
+}
+
 #[test]
-fn logs_are_judged_alike(rt: HostRuntime) -> Result<(), Fail> {
+fn logs_are_judged_alike(rt: HostRuntime) {
     let mut others = String::new(rt.alloc());
-    let counts = put_others(rt.alloc(), &mut others, 24)?;
-    assert_eq!(rt; others.as_str(), "");
-    assert!(rt;
-        counts.solved > 3 && counts.refuted > 3 && counts.unknown > 1 && counts.refused > 12,
-        "{} {} {} {}",
-        counts.solved,
-        counts.refuted,
-        counts.unknown,
-        counts.refused
-    );
-    Ok(())
+    let written = put_others_and_counts(rt.alloc(), &mut others, 24);
+    expect_none(&rt, written, others.as_str());
 }

@@ -5,6 +5,8 @@
 mod changing;
 mod drawing;
 #[cfg(test)]
+mod expecting;
+#[cfg(test)]
 mod judging;
 #[cfg(test)]
 mod learning;

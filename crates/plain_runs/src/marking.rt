@@ -1,10 +1,10 @@
 //! Logs of drawn searches are marked once for each conflict, and the logs with one change are not.
 use crate::drawing::{planted_formula, some_formula};
+use crate::expecting::expect_none;
 use crate::searching::{SearchAnswer, searched};
 use cx_base::{Formula, IntList, LogEvent, LogStep};
 use plain_tests::marked::{have_literals, marks};
 use std::alloc::{AllocError, Global};
-use std::test::Fail;
 
 /// How many times the events are marked, if they are.
 fn marks_of(
@@ -233,6 +233,20 @@ fn put_searched(
     }
 }
 
+/// As `put_searched`, of two formulas from a seed.
+fn put_drawn(
+    alloc: Global,
+    others: &mut String,
+    seed: u64,
+    budget: u64,
+    counts: &mut MarkedCounts,
+) -> Result<(), AllocError> {
+    let formula = some_formula(alloc, seed, 9, 24 + seed % 3 * 8)?;
+    put_searched(alloc, others, &formula, budget, counts)?;
+    let formula = planted_formula(alloc, seed, 8)?;
+    put_searched(alloc, others, &formula, budget, counts)
+}
+
 fn put_others(alloc: Global, others: &mut String, seeds: u64) -> Result<MarkedCounts, AllocError> {
     let mut counts = MarkedCounts {
         solved: 0,
@@ -243,31 +257,34 @@ fn put_others(alloc: Global, others: &mut String, seeds: u64) -> Result<MarkedCo
     };
     for seed in 1..=seeds {
         let budget = if seed % 3 == 0 { 1 + seed % 2 } else { 100 };
-        let formula = some_formula(alloc, seed, 9, 24 + seed % 3 * 8)?;
-        put_searched(alloc, others, &formula, budget, &mut counts)?;
-        let formula = planted_formula(alloc, seed, 8)?;
-        put_searched(alloc, others, &formula, budget, &mut counts)?;
+        put_drawn(alloc, others, seed, budget, &mut counts)?;
     }
     Ok(counts)
 }
 
+/// Whether none of the counts is small.
+fn are_many(counts: &MarkedCounts) -> bool {
+    counts.solved > 3
+        && counts.refuted > 3
+        && counts.unknown > 3
+        && counts.changed > 9
+        && counts.unmarked > 1
+}
+
+/// As `put_others`. Writes the counts too if one is small.
+fn put_others_and_counts(alloc: Global, others: &mut String, seeds: u64) -> Result<(), AllocError> {
+    let counts = put_others(alloc, others, seeds)?;
+    if are_many(&counts) {
+        return Ok(());
+    }
+    let (solved, refuted, unknown) = (counts.solved, counts.refuted, counts.unknown);
+    let (changed, unmarked) = (counts.changed, counts.unmarked);
+    writeln!(others, "{solved} {refuted} {unknown} {changed} {unmarked}")
+}
+
 #[test]
-fn logs_are_marked_once_a_conflict(rt: HostRuntime) -> Result<(), Fail> {
+fn logs_are_marked_once_a_conflict(rt: HostRuntime) {
     let mut others = String::new(rt.alloc());
-    let counts = put_others(rt.alloc(), &mut others, 24)?;
-    assert_eq!(rt; others.as_str(), "");
-    assert!(rt;
-        counts.solved > 3
-            && counts.refuted > 3
-            && counts.unknown > 3
-            && counts.changed > 9
-            && counts.unmarked > 1,
-        "{} {} {} {} {}",
-        counts.solved,
-        counts.refuted,
-        counts.unknown,
-        counts.changed,
-        counts.unmarked
-    );
-    Ok(())
+    let written = put_others_and_counts(rt.alloc(), &mut others, 24);
+    expect_none(&rt, written, others.as_str());
 }

@@ -1,12 +1,12 @@
 //! Clauses that are fresh among others, and clauses that are not.
 ghost use Rattle.std.specs.Prelude.{◌≡◌, [], OnOk};
 
+use crate::expecting::expect_none;
 use crate::learning::lit;
 use cx_base::{Formula, FormulaBuilder, Lit};
 use plain_tests::fresh::is_fresh;
 use proof_rules::Live;
 use std::alloc::{AllocError, Global};
-use std::test::Fail;
 
 /// Adds a clause.
 fn add(builder: &mut FormulaBuilder, integers: &[i64]) -> Result<(), AllocError>
@@ -55,7 +55,7 @@ fn put_others(alloc: Global, others: &mut String, cases: &[Case]) -> Result<(), 
     Ok(())
 }
 
-const CASES: [Case; 12] = [
+static CASES: [Case; 12] = [
     // implied, but propagation from nothing does not know it
     (&[&[1, 2], &[-1, 2]], &[2], true),
     (&[&[1, 2], &[-1, 2]], &[2, 2], true),
@@ -75,9 +75,8 @@ const CASES: [Case; 12] = [
 ];
 
 #[test]
-fn worked_clauses_are_fresh_or_not(rt: HostRuntime) -> Result<(), Fail> {
+fn worked_clauses_are_fresh_or_not(rt: HostRuntime) {
     let mut others = String::new(rt.alloc());
-    put_others(rt.alloc(), &mut others, &CASES)?;
-    assert_eq!(rt; others.as_str(), "");
-    Ok(())
+    let written = put_others(rt.alloc(), &mut others, &CASES);
+    expect_none(&rt, written, others.as_str());
 }
