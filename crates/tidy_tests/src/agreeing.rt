@@ -4,13 +4,13 @@
 ghost use Rattle.tidy_rules.specs.declared.part.TidyPart.{TidyPart};
 
 use crate::drawing::{Draw, are_proper, some_clauses};
+use crate::expecting::expect;
 use crate::logs::{formula_of, is_right, originals, put_told};
 use clause_arena::Arena;
 use clause_tidy::{TidyOf, plain, tidy_from};
-use cx_base::LitList;
+use cx_base::{Formula, LitList, LogStep};
 use log_text::ListLog;
 use std::alloc::{AllocError, Global};
-use std::test::Fail;
 use step_text::SinkFault;
 use tidy_rules::{Untidy, find_untidy};
 
@@ -18,7 +18,7 @@ use tidy_rules::{Untidy, find_untidy};
 const SPARE: u64 = 1_000_000;
 
 /// Which clauses are looked at beside which.
-#[derive(Clone, Copy, PartialEq, Eq, Debug, Drop)]
+#[derive(Clone, Copy, Drop)]
 enum TidyProgram {
     Queue,
     Pairs,
@@ -68,29 +68,60 @@ fn ending_of(
     }
 }
 
-/// What a program makes of drawn clauses.
-fn tidied(alloc: Global, draw: Draw, program: TidyProgram) -> Result<TidyEnding, AllocError> {
-    let mut arena = some_clauses(alloc, draw)?;
-    let formula = formula_of(alloc, &arena)?;
-    if !are_proper(&formula, &arena) {
-        return Ok(TidyEnding::Fault);
-    }
-    let mut steps = originals(alloc, &arena)?;
-    let mut log = ListLog::make(alloc);
-    let answer = match program {
-        TidyProgram::Queue => tidy_from(alloc, &mut arena, &formula, SPARE, 0, &mut log),
-        TidyProgram::Pairs => plain::tidy(alloc, &mut arena, &formula, SPARE, &mut log),
-    };
-    put_told(&mut steps, &log)?;
-    let ending = ending_of(alloc, &arena, &answer)?;
-    if is_right(alloc, &formula, &steps, ending == TidyEnding::Ended)? {
+/// What is to be said of a program's answer and of the steps that it told.
+fn judged(
+    alloc: Global,
+    arena: &Arena,
+    formula: &Formula,
+    steps: &[LogStep],
+    answer: &Result<TidyOf, SinkFault>,
+) -> Result<TidyEnding, AllocError> {
+    let ending = ending_of(alloc, arena, answer)?;
+    if is_right(alloc, formula, steps, ending == TidyEnding::Ended)? {
         Ok(ending)
     } else {
         Ok(TidyEnding::WrongLog)
     }
 }
 
-/// TidyCounts what both make of drawn clauses, or writes it where it is neither tidy nor ended.
+/// What a program makes of clauses after these steps, which take them as those of a formula.
+fn tidied_after(
+    alloc: Global,
+    arena: &mut Arena,
+    formula: &Formula,
+    steps: &mut Vec<LogStep>,
+    program: TidyProgram,
+) -> Result<TidyEnding, AllocError> {
+    if !are_proper(formula, arena) {
+        return Ok(TidyEnding::Fault);
+    }
+    let mut log = ListLog::make(alloc);
+    let answer = match program {
+        TidyProgram::Queue => tidy_from(alloc, arena, formula, SPARE, 0, &mut log),
+        TidyProgram::Pairs => plain::tidy(alloc, arena, formula, SPARE, &mut log),
+    };
+    put_told(steps, &log)?;
+    judged(alloc, arena, formula, steps, &answer)
+}
+
+/// What a program makes of the clauses of an arena.
+fn tidied_in(
+    alloc: Global,
+    arena: &mut Arena,
+    program: TidyProgram,
+) -> Result<TidyEnding, AllocError> {
+    let formula = formula_of(alloc, arena)?;
+    let mut steps = originals(alloc, arena)?;
+    tidied_after(alloc, arena, &formula, &mut steps, program)
+}
+
+/// What a program makes of drawn clauses.
+fn tidied(alloc: Global, draw: Draw, program: TidyProgram) -> Result<TidyEnding, AllocError> {
+    let mut arena = some_clauses(alloc, draw)?;
+    tidied_in(alloc, &mut arena, program)
+}
+
+/// Counts what both make of drawn clauses, or writes it where it is neither tidy nor ended.
 fn put_other(
     alloc: Global,
     others: &mut String,
@@ -122,16 +153,23 @@ fn put_others(alloc: Global, others: &mut String, seeds: u64) -> Result<TidyCoun
     Ok(counts)
 }
 
+/// As `put_others`. Writes the counts too if they are small.
+fn put_others_and_counts(alloc: Global, others: &mut String, seeds: u64) -> Result<(), AllocError> {
+    let counts = put_others(alloc, others, seeds)?;
+    if counts.tidy > 20 && counts.ended > 5 {
+        return Ok(());
+    }
+    writeln!(others, "{} {}", counts.tidy, counts.ended)
+}
+
+/// What `put_others_and_counts` writes.
+fn others(alloc: Global, seeds: u64) -> Result<String, AllocError> {
+    let mut others = String::new(alloc);
+    put_others_and_counts(alloc, &mut others, seeds)?;
+    Ok(others)
+}
+
 #[test]
-fn both_are_tidy_and_right(rt: HostRuntime) -> Result<(), Fail> {
-    let mut others = String::new(rt.alloc());
-    let counts = put_others(rt.alloc(), &mut others, 200)?;
-    assert_eq!(rt; others.as_str(), "");
-    assert!(rt;
-        counts.tidy > 20 && counts.ended > 5,
-        "{} {}",
-        counts.tidy,
-        counts.ended
-    );
-    Ok(())
+fn both_are_tidy_and_right(rt: HostRuntime) {
+    expect(&rt, others(rt.alloc(), 200), "");
 }

@@ -5,4 +5,6 @@
 mod agreeing;
 mod drawing;
 #[cfg(test)]
+mod expecting;
+#[cfg(test)]
 mod logs;
