@@ -26,10 +26,10 @@ fn places(alloc: Global, matrix: &Matrix) -> Result<Vec<usize>, AllocError> {
     Ok(places)
 }
 
-/// The variables of the columns, and the column of each variable.
-fn columns(alloc: Global, matrix: &Matrix) -> Result<String, AllocError> {
+/// Writes the variables of the columns, and the column of each variable.
+fn put_columns(alloc: Global, text: &mut String, matrix: &Matrix) -> Result<(), AllocError> {
     let places = places(alloc, matrix)?;
-    format!(in alloc; "{:?} {:?}\n", matrix.variables(), places.as_slice())
+    writeln!(text, "{:?} {:?}", matrix.variables(), places.as_slice())
 }
 
 /// The first column of the row that is not the one to skip.
@@ -58,8 +58,13 @@ fn own_near(
     Ok(matrix.own_outside_near(row, &nothing, near))
 }
 
-/// The row's rarest column, and for each row from the first one on the next row that has it.
-fn rarest_line(alloc: Global, matrix: &Matrix, row: usize) -> Result<String, AllocError>
+/// Writes the row's rarest column, and for each row from the first one on the next row that has it.
+fn put_rarest(
+    alloc: Global,
+    text: &mut String,
+    matrix: &Matrix,
+    row: usize,
+) -> Result<(), AllocError>
     requires { row < length matrix.now.rows }
 {
     let rarest = matrix.rarest_column(row);
@@ -69,35 +74,33 @@ fn rarest_line(alloc: Global, matrix: &Matrix, row: usize) -> Result<String, All
             next.push(matrix.next_with(row, column, from))?;
         }
     }
-    format!(in alloc; "{:?} {:?}", rarest, next.as_slice())
+    write!(text, "{rarest:?} {:?}", next.as_slice())
 }
 
-/// The row's rarest column and the rows with it, the columns of its part, its first two columns, and from the second one
-/// on a column that it alone has.
-fn place_line(alloc: Global, matrix: &Matrix, row: usize) -> Result<String, AllocError>
+/// Writes the row's rarest column and the rows with it, the columns of its part, its first two columns, and from the
+/// second one on a column that it alone has.
+fn put_place(
+    alloc: Global,
+    text: &mut String,
+    matrix: &Matrix,
+    row: usize,
+) -> Result<(), AllocError>
     requires { row < length matrix.now.rows }
 {
     let first = first_but(alloc, matrix, row, None)?;
     let second = first_but(alloc, matrix, row, first)?;
-    let rarest = rarest_line(alloc, matrix, row)?;
+    put_rarest(alloc, text, matrix, row)?;
     let own = own_near(alloc, matrix, row, second)?;
     let (low, count) = matrix.span(row);
-    format!(in alloc;
-        "{} {low} {count} {:?} {:?} {:?}\n",
-        rarest.as_str(),
-        first,
-        second,
-        own
-    )
+    writeln!(text, " {low} {count} {first:?} {second:?} {own:?}")
 }
 
-/// Where each row has its place.
-fn layout(alloc: Global, matrix: &Matrix) -> Result<String, AllocError> {
-    let mut text = String::new(alloc);
+/// Writes where each row has its place.
+fn put_layout(alloc: Global, text: &mut String, matrix: &Matrix) -> Result<(), AllocError> {
     for row in 0..matrix.rows() {
-        text.push_str(place_line(alloc, matrix, row)?.as_str())?;
+        put_place(alloc, text, matrix, row)?;
     }
-    Ok(text)
+    Ok(())
 }
 
 /// Whether the row has a variable of this number.
@@ -123,27 +126,31 @@ fn variables_of(alloc: Global, matrix: &Matrix, row: usize) -> Result<Vec<u32>, 
     Ok(variables)
 }
 
-/// The row's variables, its right side and its sources.
-fn row_line(alloc: Global, matrix: &Matrix, row: usize) -> Result<String, AllocError>
+/// Writes the row's variables, its right side and its sources.
+fn put_row(alloc: Global, text: &mut String, matrix: &Matrix, row: usize) -> Result<(), AllocError>
     requires { row < length matrix.now.rows }
 {
     let variables = variables_of(alloc, matrix, row)?;
     let sources = matrix.row_sources(alloc, row)?;
-    format!(in alloc;
-        "{:?} {} {:?}\n",
+    writeln!(
+        text,
+        "{:?} {} {:?}",
         variables.as_slice(),
         matrix.row_right(row),
         sources.as_slice()
     )
 }
 
-/// Each row of the matrix.
-pub(crate) fn rows(alloc: Global, matrix: &Matrix) -> Result<String, AllocError> {
-    let mut text = String::new(alloc);
+/// Writes each row of the matrix.
+pub(crate) fn put_rows(
+    alloc: Global,
+    text: &mut String,
+    matrix: &Matrix,
+) -> Result<(), AllocError> {
     for row in 0..matrix.rows() {
-        text.push_str(row_line(alloc, matrix, row)?.as_str())?;
+        put_row(alloc, text, matrix, row)?;
     }
-    Ok(text)
+    Ok(())
 }
 
 /// What is shown of a matrix, one after another.
@@ -159,14 +166,19 @@ enum Shown {
     Reduced,
 }
 
-fn show(alloc: Global, matrix: &mut Matrix, shown: Shown) -> Result<String, AllocError> {
+fn put_shown(
+    alloc: Global,
+    text: &mut String,
+    matrix: &mut Matrix,
+    shown: Shown,
+) -> Result<(), AllocError> {
     match shown {
-        Shown::Width => format!(in alloc; "{}\n", matrix.columns()),
-        Shown::Columns => columns(alloc, matrix),
-        Shown::Layout => layout(alloc, matrix),
+        Shown::Width => writeln!(text, "{}", matrix.columns()),
+        Shown::Columns => put_columns(alloc, text, matrix),
+        Shown::Layout => put_layout(alloc, text, matrix),
         Shown::Reduced => {
             matrix.reduce();
-            rows(alloc, matrix)
+            put_rows(alloc, text, matrix)
         }
     }
 }
@@ -174,7 +186,7 @@ fn show(alloc: Global, matrix: &mut Matrix, shown: Shown) -> Result<String, Allo
 fn show_all(alloc: Global, matrix: &mut Matrix, all: &[Shown]) -> Result<String, AllocError> {
     let mut text = String::new(alloc);
     for shown in all {
-        text.push_str(show(alloc, matrix, *shown)?.as_str())?;
+        put_shown(alloc, &mut text, matrix, *shown)?;
     }
     Ok(text)
 }
@@ -200,14 +212,20 @@ struct Case<'a> {
     wanted: &'a str,
 }
 
-/// What is shown, where that is not what is wanted.
+/// Writes what is shown, where that is not what is wanted.
+fn put_other(alloc: Global, others: &mut String, case: &Case) -> Result<(), AllocError> {
+    let told = told(alloc, case.vars, case.parities, case.all)?;
+    if told.as_str() == case.wanted {
+        return Ok(());
+    }
+    writeln!(others, "{told}")
+}
+
+/// As `put_other`, of each case.
 fn others(alloc: Global, cases: &[Case]) -> Result<String, AllocError> {
     let mut others = String::new(alloc);
     for case in cases {
-        let told = told(alloc, case.vars, case.parities, case.all)?;
-        if told.as_str() != case.wanted {
-            others.push_str(told.as_str())?;
-        }
+        put_other(alloc, &mut others, case)?;
     }
     Ok(others)
 }

@@ -1,7 +1,7 @@
 //! A worked pivot.
 use crate::expecting::expect_told;
 use crate::parities::parities_of;
-use crate::parts::rows;
+use crate::parts::put_rows;
 use cx_base::{Lit, Var};
 use gf2_matrix::Matrix;
 use std::alloc::{AllocError, Global};
@@ -42,8 +42,10 @@ fn told(alloc: Global, matrix: &mut Matrix) -> Result<String, AllocError> {
     let done = pivots(matrix, 0, 1);
     let wanted = [Lit::new(Var::new(1), true), Lit::new(Var::new(3), false)];
     let is_parity = is_parity(alloc, matrix, 1, Var::new(3), &wanted)?;
-    let rows = rows(alloc, matrix)?;
-    format!(in alloc; "{lacks} {done}\n{rows}{} {is_parity}\n", matrix.rows())
+    let mut text = format!(in alloc; "{lacks} {done}\n")?;
+    put_rows(alloc, &mut text, matrix)?;
+    writeln!(text, "{} {is_parity}", matrix.rows())?;
+    Ok(text)
 }
 
 /// As `told`, of the matrix of two parities that share a variable.
