@@ -125,7 +125,7 @@ fn put_changed(
 
 /// A formula that a seed draws, and what a search over it answered.
 #[derive(Clone, Copy, Drop)]
-struct Search<'f> {
+struct DrawnSearch<'f> {
     formula: &'f Formula,
     seed: u64,
     answer: SearchAnswer,
@@ -135,11 +135,11 @@ struct Search<'f> {
 fn put_text(
     alloc: Global,
     others: &mut String,
-    search: Search<'_>,
+    search: DrawnSearch<'_>,
     text: &[u8],
     counts: &mut JudgedCounts,
 ) -> Result<(), AllocError> {
-    let Search {
+    let DrawnSearch {
         formula,
         seed,
         answer,
@@ -158,7 +158,7 @@ fn put_text(
 fn put_log(
     alloc: Global,
     others: &mut String,
-    search: Search<'_>,
+    search: DrawnSearch<'_>,
     events: &[LogEvent],
     counts: &mut JudgedCounts,
 ) -> Result<(), AllocError> {
@@ -178,7 +178,7 @@ fn put_searched(
     let Some((answer, log)) = searched(alloc, formula, budget)? else {
         return writeln!(others, "no log from {seed}");
     };
-    let search = Search {
+    let search = DrawnSearch {
         formula,
         seed,
         answer,

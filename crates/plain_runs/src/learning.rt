@@ -122,6 +122,25 @@ fn event(
     }
 }
 
+/// As `judged`, from what the log told before.
+fn judged_after(
+    alloc: Global,
+    formula: &Formula,
+    told: &mut LogPrefix,
+    events: &[LogEvent],
+) -> Result<Option<(u64, u64)>, AllocError> {
+    for it in events {
+        if !event(alloc, formula, told, it)? {
+            return Ok(None);
+        }
+    }
+    Ok(if told.awaits {
+        None
+    } else {
+        Some((told.learned, told.units))
+    })
+}
+
 /// How many clauses a log's search learned and how many unit clauses it told besides, if each event fits.
 fn judged(
     alloc: Global,
@@ -134,16 +153,7 @@ fn judged(
         learned: 0,
         units: 0,
     };
-    for it in events {
-        if !event(alloc, formula, &mut told, it)? {
-            return Ok(None);
-        }
-    }
-    Ok(if told.awaits {
-        None
-    } else {
-        Some((told.learned, told.units))
-    })
+    judged_after(alloc, formula, &mut told, events)
 }
 
 /// How many clauses a search over a formula learned and how many unit clauses it told besides, if each event fits.

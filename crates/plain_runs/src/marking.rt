@@ -161,6 +161,17 @@ struct MarkedLog<'e> {
     marks: u64,
 }
 
+/// How many times a log is marked after a change, if it is.
+fn marks_after(
+    alloc: Global,
+    log: MarkedLog<'_>,
+    learned: LearnedClause<'_>,
+    change: EventChange,
+) -> Result<Option<u64>, AllocError> {
+    let events = changed(alloc, log.events, learned, change)?;
+    marks_of(alloc, log.formula, &events)
+}
+
 /// Writes the changes after which the marks do not fit.
 fn put_changed(
     alloc: Global,
@@ -168,20 +179,14 @@ fn put_changed(
     log: MarkedLog<'_>,
     counts: &mut MarkedCounts,
 ) -> Result<(), AllocError> {
-    let MarkedLog {
-        formula,
-        events,
-        marks,
-    } = log;
-    let Some(learned) = first_learned(events) else {
+    let Some(learned) = first_learned(log.events) else {
         return Ok(());
     };
     counts.changed = counts.changed.saturating_add(1);
     for change in CHANGES {
-        let events = changed(alloc, events, learned, change)?;
-        let found = marks_of(alloc, formula, &events)?;
-        if !fits(change, marks, found) {
-            writeln!(others, "{change:?}: {marks} {found:?}")?;
+        let found = marks_after(alloc, log, learned, change)?;
+        if !fits(change, log.marks, found) {
+            writeln!(others, "{change:?}: {} {found:?}", log.marks)?;
         }
         if change == EventChange::LeaveMarkOut && found == None {
             counts.unmarked = counts.unmarked.saturating_add(1);

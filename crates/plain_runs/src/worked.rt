@@ -37,12 +37,22 @@ fn lits(alloc: Global, integers: &[i64]) -> Result<Vec<Lit>, AllocError> {
 /// Live clauses, another one, and whether that is fresh.
 type Case = (&'static [&'static [i64]], &'static [i64], bool);
 
+/// Whether a clause is fresh among live ones.
+fn is_fresh_among(alloc: Global, live: &Live, clause: &[i64]) -> Result<bool, AllocError> {
+    let lits = lits(alloc, clause)?;
+    is_fresh(alloc, live, &lits)
+}
+
+/// Whether a clause is fresh among those of a formula.
+fn is_fresh_beside(alloc: Global, formula: &Formula, clause: &[i64]) -> Result<bool, AllocError> {
+    let live = Live::of(alloc, formula)?;
+    is_fresh_among(alloc, &live, clause)
+}
+
 fn is_right(alloc: Global, case: &Case) -> Result<bool, AllocError> {
     let (clauses, clause, fresh) = *case;
     let formula = formula(alloc, clauses)?;
-    let live = Live::of(alloc, &formula)?;
-    let lits = lits(alloc, clause)?;
-    Ok(is_fresh(alloc, &live, &lits)? == fresh)
+    Ok(is_fresh_beside(alloc, &formula, clause)? == fresh)
 }
 
 /// Writes the cases that are not so.
