@@ -61,19 +61,26 @@ fn end_of_row(
     alloc: Global,
     formula: &Formula,
     state: &SearchState,
-    reason: ReasonOf,
+    reason: &ReasonOf,
 ) -> Result<LogEnd, AllocError>
     requires ids { HasIds state.now }
     requires few { AreFew formula.now.constraints state.now.next [] }
     requires units { length state.now.units.items ≤ length state.now.trail.entries }
-    requires known { All (λ l. l.variable ≤ state.now.trail.variables) reason.clause }
-    requires short { length reason.clause ≤ 268435455 }
-    requires sources { (parities : ℕ) × (parities ≤ length formula.now.constraints) × AreRising 1 parities reason.sources }
-    ensures { IfOk result (EndsByRow state.now (length formula.now.constraints) reason) }
+    requires known { All (λ l. l.variable ≤ state.now.trail.variables) reason.now.clause }
+    requires short { length reason.now.clause ≤ 268435455 }
+    requires sources { (parities : ℕ) × (parities ≤ length formula.now.constraints) × AreRising 1 parities reason.now.sources }
+    ensures { IfOk result (EndsByRow state.now (length formula.now.constraints) reason.now) }
 {
     let short = shorten(alloc, state, reason.clause.as_slice())?;
     let id = first_id_of_rows(state.next);
-    last_steps(alloc, formula, id, reason.sources, &short, Vec::new(alloc))
+    last_steps(
+        alloc,
+        formula,
+        id,
+        reason.sources.as_slice(),
+        &short,
+        Vec::new(alloc),
+    )
 }
 
 /// The clause of a row, which is not an ending clause. It is told first.
@@ -117,7 +124,7 @@ fn of_row<P: ParityEngine, L: Sink<Item = LogEvent>>(
 {
     let reason = reason_clause(log.alloc, engine, row, kept, &state.trail)?;
     if log.formula.is_ending(reason.clause.as_slice()) {
-        let ending = end_of_row(log.alloc, log.formula, state, reason)?;
+        let ending = end_of_row(log.alloc, log.formula, state, &reason)?;
         return Ok(Conclusion::Ending(ending));
     }
     match told_row(log, state, engine, reason) {

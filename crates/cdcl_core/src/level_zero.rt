@@ -47,17 +47,17 @@ fn untold_clause(
 
 /// The clauses of the arena, of level 0 and of the rows. A row's clause is told when it is asked for, and none that would end the log.
 #[derive(Drop)]
-struct ZeroSource<'a, 'b, P, L> {
+struct ZeroSource<'a, 'b, 'r, 'f, P, L> {
     log: &'a mut SearchLog<'b, L>,
     state: &'a SearchState,
     engine: &'a P,
     /// The clauses of rows that were told since the last mark, in the order of their ids.
-    rows: &'a mut Vec<LitList>,
+    rows: &'r mut Vec<LitList>,
     /// The first row whose clause would end the log.
-    first: &'a Option<EndingRow>,
+    first: &'f Option<EndingRow>,
 }
 
-impl<P: ParityEngine, L: Sink<Item = LogEvent>> ZeroSource<'_, '_, P, L> {
+impl<P: ParityEngine, L: Sink<Item = LogEvent>> ZeroSource<'_, '_, '_, '_, P, L> {
     /// The clause of the row that implied a literal of the trail. It is told. Where it would end the log, the first such row is added to the row.
     fn told_clause(&mut self, row: Row, literal: Lit) -> Result<Hinted, CoreFault>
         requires ready { CanBeAsked P.ParityEngine L.Sink self.old }
@@ -123,7 +123,7 @@ impl<P: ParityEngine, L: Sink<Item = LogEvent>> ZeroSource<'_, '_, P, L> {
     }
 }
 
-impl<P: ParityEngine, L: Sink<Item = LogEvent>> Antecedents for ZeroSource<'_, '_, P, L> {
+impl<P: ParityEngine, L: Sink<Item = LogEvent>> Antecedents for ZeroSource<'_, '_, '_, '_, P, L> {
     ghost trail = { λ a. a.state.now.trail };
 
     ghost holds = { λ a c n. IsHeldBeside a.state.now a.rows.now.items a.first.now c n };
@@ -155,13 +155,13 @@ impl<P: ParityEngine, L: Sink<Item = LogEvent>> Antecedents for ZeroSource<'_, '
 }
 
 /// The literals of level 0 that a false clause rests on, where that is the current level. The clauses of rows that are told for it come after these rows.
-pub(crate) fn trace_all<'x, P: ParityEngine, L: Sink<Item = LogEvent>>(
+pub(crate) fn trace_all<'x, 'r, 'f, P: ParityEngine, L: Sink<Item = LogEvent>>(
     log: &'x mut SearchLog<L>,
     state: &'x SearchState,
     engine: &'x P,
     clause: &LitList,
-    first: &'x Option<EndingRow>,
-    rows: &'x mut Vec<LitList>,
+    first: &'f Option<EndingRow>,
+    rows: &'r mut Vec<LitList>,
     marks: &mut Marks,
 ) -> Result<Final, CoreFault>
     requires ready { CanAnalyse P.ParityEngine L.Sink log.old state.now engine.now marks.old rows.old.items }

@@ -57,7 +57,7 @@ pub(crate) fn end_of_refuted(
     alloc: Global,
     formula: &Formula,
     state: &SearchState,
-    reason: ReasonOf,
+    reason: &ReasonOf,
     hints: &IntList,
     rows: usize,
 ) -> Result<LogEnd, AllocError>
@@ -65,10 +65,10 @@ pub(crate) fn end_of_refuted(
     requires constraints { length formula.now.constraints ≤ 4294967295 }
     requires room { (state.now.next ≤ 1000000005000000000) × (rows ≤ 268435456) }
     requires units { length state.now.units.items ≤ length state.now.trail.entries }
-    requires known { All (λ l. l.variable ≤ state.now.trail.variables) reason.clause }
-    requires short { length reason.clause ≤ 268435455 }
-    requires sources { (parities : ℕ) × (parities ≤ length formula.now.constraints) × AreRising 1 parities reason.sources }
-    ensures { IfOk result (EndsByUnits state.now (length formula.now.constraints) rows reason hints.now) }
+    requires known { All (λ l. l.variable ≤ state.now.trail.variables) reason.now.clause }
+    requires short { length reason.now.clause ≤ 268435455 }
+    requires sources { (parities : ℕ) × (parities ≤ length formula.now.constraints) × AreRising 1 parities reason.now.sources }
+    ensures { IfOk result (EndsByUnits state.now (length formula.now.constraints) rows reason.now hints.now) }
 {
     let short = shorten(alloc, state, reason.clause.as_slice())?;
     let Shortened { left, units } = short;
@@ -82,5 +82,5 @@ pub(crate) fn end_of_refuted(
         left: LitList::from_vec(Vec::new(alloc)),
         units,
     };
-    last_steps(alloc, formula, id, reason.sources, &last, steps)
+    last_steps(alloc, formula, id, reason.sources.as_slice(), &last, steps)
 }

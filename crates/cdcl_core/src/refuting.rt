@@ -69,38 +69,40 @@ fn hints_of_told(alloc: Global, resolved: &[Resolved], conflict: u64) -> Result<
 }
 
 /// The reason of a row that is given.
-fn reason_of(first: Option<EndingRow>) -> ReasonOf
-    requires { (row : EndingRow) × (first ≡ Some row) }
-    ensures { (row : EndingRow) → first ≡ Some row → result ≡ row.reason }
+fn reason_of(first: &Option<EndingRow>) -> &ReasonOf
+    requires { (row : EndingRow) × (first.now ≡ Some row) }
+    ensures { (row : EndingRow) → first.now ≡ Some row → result.now ≡ row.reason }
 {
     match first {
-        Some(row) => row.reason,
+        Some(row) => &row.reason,
         None => unreachable!(),
     }
 }
 
 impl<P: ParityEngine, L: Sink<Item = LogEvent>> Analyser<'_, '_, P, L> {
     /// Ends the log by a clause that is false at level 0, where no row's clause would end it before.
-    fn refute_told(&mut self, conflict: Conflict) -> Result<LitList, CoreFault>
-        requires at { IsAtZero P.ParityEngine L.Sink self.old conflict.rows.items }
-        requires conflict { IsConflictClause self.old.state.now conflict.rows.items conflict.lits conflict.id }
-        requires told { IsTold conflict }
-        requires none { IsFirstOf P.ParityEngine self.old None }
+    fn refute_told(
+        &mut self,
+        conflict: &mut Conflict,
+        first: &Option<EndingRow>,
+    ) -> Result<LitList, CoreFault>
+        requires at { IsAtZero P.ParityEngine L.Sink self.old conflict.old.rows.items }
+        requires conflict { IsConflictClause self.old.state.now conflict.old.rows.items conflict.old.lits conflict.old.id }
+        requires told { IsTold conflict.old }
+        requires first { IsFirstOf P.ParityEngine self.old first.now }
+        requires none { first.now ≡ None }
         ensures { TellsRefutation L.Sink self.old result self.new }
     {
-        let Conflict { lits, id, rows } = conflict;
-        let mut rows = rows;
-        let first = None;
         let traced = trace_all(
             self.log,
             self.state,
             self.engine,
-            &lits,
-            &first,
-            &mut rows,
+            &conflict.lits,
+            first,
+            &mut conflict.rows,
             self.marks,
         )?;
-        let hints = hints_of_lesson(self.log.alloc, &traced.resolved, id)?;
+        let hints = hints_of_lesson(self.log.alloc, &traced.resolved, conflict.id)?;
         tell_empty(self.log, self.state, hints)?;
         Ok(LitList::from_vec(Vec::new(self.log.alloc)))
     }
@@ -108,13 +110,13 @@ impl<P: ParityEngine, L: Sink<Item = LogEvent>> Analyser<'_, '_, P, L> {
     /// Ends the log by a row's clause: chains with these hints leave none of its literals, after these clauses of rows.
     fn end_by(
         &mut self,
-        reason: ReasonOf,
+        reason: &ReasonOf,
         hints: &IntList,
         rows: &[LitList],
     ) -> Result<LitList, CoreFault>
         requires at { IsAtZero P.ParityEngine L.Sink self.old rows.now }
-        requires reason { Explains (P.state self.old.engine.now).parities self.old.state.now.trail reason }
-        requires ends { EndsByHints self.old.log.now.formula.now self.old.state.now (told_in L.Sink self.old.log.now) (length rows.now) reason hints.now }
+        requires reason { Explains (P.state self.old.engine.now).parities self.old.state.now.trail reason.now }
+        requires ends { EndsByHints self.old.log.now.formula.now self.old.state.now (told_in L.Sink self.old.log.now) (length rows.now) reason.now hints.now }
         ensures { TellsRefutation L.Sink self.old result self.new }
     {
         let count = rows.len();
@@ -130,94 +132,107 @@ impl<P: ParityEngine, L: Sink<Item = LogEvent>> Analyser<'_, '_, P, L> {
     }
 
     /// Ends the log by a clause that is false at level 0, where this row is the first one whose clause would end it before.
-    fn refute_beside(&mut self, conflict: Conflict, row: EndingRow) -> Result<LitList, CoreFault>
-        requires at { IsAtZero P.ParityEngine L.Sink self.old conflict.rows.items }
-        requires conflict { IsConflictClause self.old.state.now conflict.rows.items conflict.lits conflict.id }
-        requires told { IsTold conflict }
-        requires first { IsFirstOf P.ParityEngine self.old (Some row) }
+    fn refute_beside(
+        &mut self,
+        conflict: &mut Conflict,
+        first: &Option<EndingRow>,
+    ) -> Result<LitList, CoreFault>
+        requires at { IsAtZero P.ParityEngine L.Sink self.old conflict.old.rows.items }
+        requires conflict { IsConflictClause self.old.state.now conflict.old.rows.items conflict.old.lits conflict.old.id }
+        requires told { IsTold conflict.old }
+        requires first { IsFirstOf P.ParityEngine self.old first.now }
+        requires some { (row : EndingRow) × (first.now ≡ Some row) }
         ensures { TellsRefutation L.Sink self.old result self.new }
     {
-        let Conflict { lits, id, rows } = conflict;
-        let mut rows = rows;
-        let first = Some(row);
         let traced = trace_all(
             self.log,
             self.state,
             self.engine,
-            &lits,
-            &first,
-            &mut rows,
+            &conflict.lits,
+            first,
+            &mut conflict.rows,
             self.marks,
         )?;
-        let hints = hints_of_told(self.log.alloc, &traced.resolved, id)?;
-        self.end_by(reason_of(first), &hints, &rows)
+        let hints = hints_of_told(self.log.alloc, &traced.resolved, conflict.id)?;
+        self.end_by(reason_of(first), &hints, &conflict.rows)
     }
 
     /// Ends the log by a clause that is false at level 0. The first row whose clause would end it before may be given.
     fn refute_by(
         &mut self,
-        conflict: Conflict,
-        first: Option<EndingRow>,
+        conflict: &mut Conflict,
+        first: &Option<EndingRow>,
     ) -> Result<LitList, CoreFault>
-        requires at { IsAtZero P.ParityEngine L.Sink self.old conflict.rows.items }
-        requires conflict { IsConflictClause self.old.state.now conflict.rows.items conflict.lits conflict.id }
-        requires told { IsTold conflict }
-        requires first { IsFirstOf P.ParityEngine self.old first }
+        requires at { IsAtZero P.ParityEngine L.Sink self.old conflict.old.rows.items }
+        requires conflict { IsConflictClause self.old.state.now conflict.old.rows.items conflict.old.lits conflict.old.id }
+        requires told { IsTold conflict.old }
+        requires first { IsFirstOf P.ParityEngine self.old first.now }
         ensures { TellsRefutation L.Sink self.old result self.new }
     {
         match first {
-            Some(row) => self.refute_beside(conflict, row),
-            None => self.refute_told(conflict),
+            Some(_) => self.refute_beside(conflict, first),
+            None => self.refute_told(conflict, first),
         }
     }
 
     /// Ends the log by a row that is not met at level 0, where its own clause is the first that would end it before.
-    fn refute_ending(&mut self, reason: ReasonOf) -> Result<LitList, CoreFault>
-        requires at { IsAtZero P.ParityEngine L.Sink self.old [] }
-        requires none { IsFirstOf P.ParityEngine self.old None }
-        requires reason { IsReason (P.state self.old.engine.now).parities self.old.state.now.trail None reason }
-        requires ending { IsTrue (is_ending self.old.log.now.formula.now.constraints reason.clause) }
+    fn refute_ending(
+        &mut self,
+        reason: &ReasonOf,
+        first: &Option<EndingRow>,
+        rows: &mut Vec<LitList>,
+    ) -> Result<LitList, CoreFault>
+        requires at { IsAtZero P.ParityEngine L.Sink self.old rows.old.items }
+        requires rows { rows.old.items ≡ [] }
+        requires first { IsFirstOf P.ParityEngine self.old first.now }
+        requires none { first.now ≡ None }
+        requires reason { IsReason (P.state self.old.engine.now).parities self.old.state.now.trail None reason.now }
+        requires ending { IsTrue (is_ending self.old.log.now.formula.now.constraints reason.now.clause) }
         ensures { TellsRefutation L.Sink self.old result self.new }
     {
-        let mut rows = Vec::new(self.log.alloc);
-        let first = None;
         let traced = trace_all(
             self.log,
             self.state,
             self.engine,
             &reason.clause,
-            &first,
-            &mut rows,
+            first,
+            rows,
             self.marks,
         )?;
         let hints = IntList::from_vec(hints_of_resolved(self.log.alloc, &traced.resolved)?);
-        self.end_by(reason, &hints, &rows)
+        self.end_by(reason, &hints, rows)
     }
 
     /// Ends the log by a row that is not met at level 0, where no other row's clause would end it before.
-    fn refute_row_alone(&mut self, reason: ReasonOf) -> Result<LitList, CoreFault>
+    fn refute_row_alone(
+        &mut self,
+        reason: ReasonOf,
+        first: &Option<EndingRow>,
+    ) -> Result<LitList, CoreFault>
         requires at { IsAtZero P.ParityEngine L.Sink self.old [] }
         requires reason { IsReason (P.state self.old.engine.now).parities self.old.state.now.trail None reason }
-        requires none { IsFirstOf P.ParityEngine self.old None }
+        requires first { IsFirstOf P.ParityEngine self.old first.now }
+        requires none { first.now ≡ None }
         ensures { TellsRefutation L.Sink self.old result self.new }
     {
         if self.log.formula.is_ending(reason.clause.as_slice()) {
-            return self.refute_ending(reason);
+            let mut rows = Vec::new(self.log.alloc);
+            return self.refute_ending(&reason, first, &mut rows);
         }
-        let conflict = told_row(self.log, self.state, self.engine, reason)?;
-        self.refute_told(conflict)
+        let mut conflict = told_row(self.log, self.state, self.engine, reason)?;
+        self.refute_told(&mut conflict, first)
     }
 
     /// Ends the log by a row that is not met at level 0, where this row is the first one whose clause would end it before.
     fn refute_row_beside(
         &mut self,
         reason: ReasonOf,
-        first: Option<EndingRow>,
+        first: &Option<EndingRow>,
     ) -> Result<LitList, CoreFault>
         requires at { IsAtZero P.ParityEngine L.Sink self.old [] }
         requires reason { IsReason (P.state self.old.engine.now).parities self.old.state.now.trail None reason }
-        requires first { IsFirstOf P.ParityEngine self.old first }
-        requires some { IsSome first }
+        requires first { IsFirstOf P.ParityEngine self.old first.now }
+        requires some { IsSome first.now }
         ensures { TellsRefutation L.Sink self.old result self.new }
     {
         let zero = LevelZero {
@@ -226,22 +241,22 @@ impl<P: ParityEngine, L: Sink<Item = LogEvent>> Analyser<'_, '_, P, L> {
             state: self.state,
             engine: self.engine,
         };
-        let told = zero.going_on(&first, reason, None)?;
-        let conflict = told_row(self.log, self.state, self.engine, told)?;
-        self.refute_by(conflict, first)
+        let told = zero.going_on(first, reason, None)?;
+        let mut conflict = told_row(self.log, self.state, self.engine, told)?;
+        self.refute_by(&mut conflict, first)
     }
 
     /// Ends the log by a row that is not met at level 0.
-    fn refute_row(&mut self, row: Row, first: Option<EndingRow>) -> Result<LitList, CoreFault>
+    fn refute_row(&mut self, row: Row, first: &Option<EndingRow>) -> Result<LitList, CoreFault>
         requires at { IsAtZero P.ParityEngine L.Sink self.old [] }
         requires clash { IsClash (P.state self.old.engine.now) row }
-        requires first { IsFirstOf P.ParityEngine self.old first }
+        requires first { IsFirstOf P.ParityEngine self.old first.now }
         ensures { TellsRefutation L.Sink self.old result self.new }
     {
         let reason = reason_clause(self.log.alloc, self.engine, row, None, &self.state.trail)?;
         match first {
-            Some(row) => self.refute_row_beside(reason, Some(row)),
-            None => self.refute_row_alone(reason),
+            Some(_) => self.refute_row_beside(reason, first),
+            None => self.refute_row_alone(reason, first),
         }
     }
 
@@ -249,15 +264,18 @@ impl<P: ParityEngine, L: Sink<Item = LogEvent>> Analyser<'_, '_, P, L> {
     fn refute_clause(
         &mut self,
         clause: ClauseRef,
-        first: Option<EndingRow>,
+        first: &Option<EndingRow>,
     ) -> Result<LitList, CoreFault>
         requires at { IsAtZero P.ParityEngine L.Sink self.old [] }
         requires found { PropagationFinds self.old.state.now (P.state self.old.engine.now) (found.Clause clause) }
-        requires first { IsFirstOf P.ParityEngine self.old first }
+        requires first { IsFirstOf P.ParityEngine self.old first.now }
         ensures { TellsRefutation L.Sink self.old result self.new }
     {
         match conflict_clause(self.log, self.state, self.engine, Found::Clause(clause))? {
-            Conclusion::Clause(conflict) => self.refute_by(conflict, first),
+            Conclusion::Clause(conflict) => {
+                let mut conflict = conflict;
+                self.refute_by(&mut conflict, first)
+            }
             Conclusion::Ending(_) => unreachable!(),
         }
     }
@@ -277,8 +295,8 @@ impl<P: ParityEngine, L: Sink<Item = LogEvent>> Analyser<'_, '_, P, L> {
         };
         let first = zero.first_ending()?;
         match found {
-            Found::Clause(clause) => self.refute_clause(clause, first),
-            Found::Row(row) => self.refute_row(row, first),
+            Found::Clause(clause) => self.refute_clause(clause, &first),
+            Found::Row(row) => self.refute_row(row, &first),
             Found::Quiet => unreachable!(),
         }
     }

@@ -109,12 +109,12 @@ fn push_unit_parities(
     Ok(())
 }
 
-/// These ids, and so many after them from the first one on.
-fn with_ids(ids: IdList, first: u64, count: usize) -> Result<IdList, AllocError>
+/// A copy of these ids, and so many after them from the first one on.
+fn with_ids(alloc: Global, ids: &[u64], first: u64, count: usize) -> Result<IdList, AllocError>
     requires { AreIdsFrom first count }
-    ensures { IfOk result (λ all. all ≡ ids ++ range_with_len first count) }
+    ensures { IfOk result (λ all. all ≡ ids.now ++ range_with_len first count) }
 {
-    let mut all = ids.into_vec();
+    let mut all = ids.to_vec(alloc)?;
     for place in 0..count {
         all.push(first + place as u64)?;
     }
@@ -126,26 +126,26 @@ pub(crate) fn last_steps(
     alloc: Global,
     formula: &Formula,
     id: u64,
-    sources: IdList,
+    sources: &[u64],
     short: &Shortened,
     before: Vec<LogStep>,
 ) -> Result<LogEnd, AllocError>
     requires texts { AllByRecursion IsTellable before.items }
     requires id { IsId id }
-    requires sources { AllByRecursion IsId sources }
+    requires sources { AllByRecursion IsId sources.now }
     requires units { AllByRecursion (λ u. IsId u.id) short.now.units.items }
     requires ids { AreIdsFrom (length formula.now.constraints + 1) (length short.now.units.items) }
-    ensures { IfOk result (EndsBy (length formula.now.constraints) id sources short.now (as_events before.items)) }
+    ensures { IfOk result (EndsBy (length formula.now.constraints) id sources.now short.now (as_events before.items)) }
 {
     let first = formula.len() as u64 + 1;
-    let failed = negated(alloc, short.left.as_slice())?;
-    let parity = integers(alloc, short.left.as_slice())?;
-    let clause = integers(alloc, short.left.as_slice())?;
-    let sources = with_ids(sources, first, short.units.len())?;
+    let number = first + short.units.len() as u64;
     let mut steps = before;
     push_unit_parities(alloc, &mut steps, first, &short.units)?;
-    let number = first + short.units.len() as u64;
+    let sources = with_ids(alloc, sources, first, short.units.len())?;
+    let parity = integers(alloc, short.left.as_slice())?;
     steps.push(sum(number, parity, sources))?;
+    let clause = integers(alloc, short.left.as_slice())?;
     steps.push(clause_of_sum(id, clause, number))?;
+    let failed = negated(alloc, short.left.as_slice())?;
     Ok(LogEnd { steps, failed })
 }

@@ -4,4 +4,4 @@ use Rattle.cdcl_core.proofs.shortening.with_ids.Given as goal
 
 -- the ids, and this many after them
 abbrev pub invariant-loop-place : goal.invariant-loop-place
-invariant-loop-place l = record { few : l.place ≤ l.count; are : l.all.items ≡ l.fn.ids ++ range_with_len l.first l.place }
+invariant-loop-place l = record { few : l.place ≤ l.count; are : l.all.items ≡ l.ids ++ range_with_len l.first l.place }

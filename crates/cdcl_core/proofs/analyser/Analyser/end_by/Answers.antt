@@ -26,10 +26,10 @@ pub end_of_refuted-requires-clause-units : goal.end_of_refuted-requires-clause-u
 end_of_refuted-requires-clause-units g c = c.requires.at.stands.3.units.few
 
 pub end_of_refuted-requires-clause-known : goal.end_of_refuted-requires-clause-known
-end_of_refuted-requires-clause-known g c = let st = c.requires.at.stands in known_by c.args.self.now.log.now.formula.now c.args.self.now.state.now (g.P.ParityEngine.state c.args.self.now.engine.now) c.args.rows.now st.0 st.1 st.3 c.args.reason c.requires.reason
+end_of_refuted-requires-clause-known g c = let st = c.requires.at.stands in known_by c.args.self.now.log.now.formula.now c.args.self.now.state.now (g.P.ParityEngine.state c.args.self.now.engine.now) c.args.rows.now st.0 st.1 st.3 c.args.reason.now c.requires.reason
 
 pub end_of_refuted-requires-clause-short : goal.end_of_refuted-requires-clause-short
-end_of_refuted-requires-clause-short g c = let st = c.requires.at.stands in short_by c.args.self.now.log.now.formula.now c.args.self.now.state.now (g.P.ParityEngine.state c.args.self.now.engine.now) c.args.rows.now st.0 st.1 st.3 c.args.reason c.requires.reason
+end_of_refuted-requires-clause-short g c = let st = c.requires.at.stands in short_by c.args.self.now.log.now.formula.now c.args.self.now.state.now (g.P.ParityEngine.state c.args.self.now.engine.now) c.args.rows.now st.0 st.1 st.3 c.args.reason.now c.requires.reason
 
 pub end_of_refuted-requires-clause-sources : goal.end_of_refuted-requires-clause-sources
 end_of_refuted-requires-clause-sources g c = (length (g.P.ParityEngine.state c.args.self.now.engine.now).parities, c.requires.at.stands.3.engine.few, c.requires.reason.numbers)

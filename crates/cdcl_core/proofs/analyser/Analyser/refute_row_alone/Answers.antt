@@ -24,8 +24,8 @@ refute_told-requires-clause-conflict g c =
 pub refute_told-requires-clause-told : goal.refute_told-requires-clause-told
 refute_told-requires-clause-told g c = c.in_ok-conflict.ensures.told.told
 
-pub refute_told-requires-clause-none : goal.refute_told-requires-clause-none
-refute_told-requires-clause-none g c = subst (λ (f : Problem). IsFirst f.constraints c.args.self.now.state.now (g.P.ParityEngine.state c.args.self.now.engine.now) None) (sym c.in_ok-conflict.ensures.log.formula) c.requires.none
+pub refute_told-requires-clause-first : goal.refute_told-requires-clause-first
+refute_told-requires-clause-first g c = subst (λ (f : Problem). IsFirst f.constraints c.args.self.now.state.now (g.P.ParityEngine.state c.args.self.now.engine.now) c.args.first.now) (sym c.in_ok-conflict.ensures.log.formula) c.requires.first
 
 pub returns : goal.returns
 returns g c = record {

@@ -7,7 +7,7 @@ use Rattle.cdcl_core.proofs.BesideLaws.{reason_explains, row_is_beside, told_con
 use Rattle.cdcl_core.proofs.analyser.Analyser.refute_row_beside.Goals as goal
 
 pub going_on-requires-clause-beside : goal.going_on-requires-clause-beside
-going_on-requires-clause-beside g c = λ ends. row_is_beside c.args.first c.requires.some
+going_on-requires-clause-beside g c = λ ends. row_is_beside c.args.first.now c.requires.some
 
 pub told_row-requires-clause-explains : goal.told_row-requires-clause-explains
 told_row-requires-clause-explains g c = reason_explains (g.P.ParityEngine.state c.args.self.now.engine.now).parities c.args.self.now.state.now.trail None c.in_ok-told.told c.in_ok-told.ensures.reason
@@ -22,7 +22,7 @@ pub refute_by-requires-clause-told : goal.refute_by-requires-clause-told
 refute_by-requires-clause-told g c = c.in_ok-conflict.ensures.told.told
 
 pub refute_by-requires-clause-first : goal.refute_by-requires-clause-first
-refute_by-requires-clause-first g c = subst (λ (f : Problem). IsFirst f.constraints c.args.self.now.state.now (g.P.ParityEngine.state c.args.self.now.engine.now) c.args.first) (sym c.in_ok-conflict.ensures.log.formula) c.requires.first
+refute_by-requires-clause-first g c = subst (λ (f : Problem). IsFirst f.constraints c.args.self.now.state.now (g.P.ParityEngine.state c.args.self.now.engine.now) c.args.first.now) (sym c.in_ok-conflict.ensures.log.formula) c.requires.first
 
 pub returns : goal.returns
 returns g c = record {
