@@ -72,3 +72,6 @@ imply-requires-clause-high g c =
     let high = waits.3.singles.0.2 in
     let vars = waits.3.variables in
     omega (arith, high, vars)
+
+pub refute-requires-clause-going : goal.refute-requires-clause-going
+refute-requires-clause-going g c = c.requires.going

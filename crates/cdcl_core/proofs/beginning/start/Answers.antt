@@ -90,3 +90,9 @@ returns-in-Some-clause-begins g c =
     let told = g.L.Sink.items c.refute.new.log.sink.now in
     let formula = c.refute.new.log.formula.now in
     refutes_either c.args.tidies formula 1 told [] (subst (λ b. RefutesIn b formula 1 told []) c.requires.filled.never_tidies (subst (λ n. RefutesIn c.args.filled.now.state.tidies formula (n + 1) told []) c.requires.filled.conflicts c.in_ok-refute.ensures.refutes))
+
+pub refute-requires-clause-going : goal.refute-requires-clause-going
+refute-requires-clause-going g c = c.requires.going
+
+pub put_units-requires-clause-going : goal.put_units-requires-clause-going
+put_units-requires-clause-going g c = c.requires.going

@@ -25,3 +25,9 @@ returns-in_ok-stored-in-Clause-clause-concludes_on g c =
 
 pub stored-requires-clause-ids : goal.stored-requires-clause-ids
 stored-requires-clause-ids g c = has_ids c.args.log.now.formula.now c.args.state.now (g.P.ParityEngine.state c.args.engine.now) [] (g.L.Sink.items c.args.log.now.sink.now) c.requires.stands
+
+pub of_row-requires-clause-stands : goal.of_row-requires-clause-stands
+of_row-requires-clause-stands g c = c.requires.stands
+
+pub of_row-requires-clause-going : goal.of_row-requires-clause-going
+of_row-requires-clause-going g c = c.requires.going

@@ -52,3 +52,15 @@ pub returns-in_err-tell_chained-clause-ends : goal.returns-in_err-tell_chained-c
 returns-in_err-tell_chained-clause-ends g c =
     let fault = err_from_is_err_and c.from_residual-in_err-tell_chained.result c.from_residual-in_err-tell_chained.ensures.1 in
     rw (fault.1, fault.2) (record { refutes = tt; log = log_then g.L.Sink g.met.L.Sink.keeps_on _ c.trace.new.log _ _ c.in_ok-left.ensures.on.log c.in_err-tell_chained.ensures.log })
+
+pub trace-requires-clause-ready : goal.trace-requires-clause-ready
+trace-requires-clause-ready g c = c.requires.ready
+
+pub trace-requires-clause-few_rows : goal.trace-requires-clause-few_rows
+trace-requires-clause-few_rows g c = c.requires.told.1
+
+pub hints_of_lesson-requires-clause-conflict : goal.hints_of_lesson-requires-clause-conflict
+hints_of_lesson-requires-clause-conflict g c = c.requires.told.0
+
+pub returns-clause-clear : goal.returns-clause-clear
+returns-clause-clear g c = c.in_ok-left.ensures.on.clear

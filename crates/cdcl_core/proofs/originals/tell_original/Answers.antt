@@ -70,3 +70,9 @@ returns-in-Assume-clause-taken g c = record {
   begun = assumption_begun c.args.log.now.formula.now c.args.place (constraint.Clause []) c.requires.place c.requires.few c.args.counts.now.clauses c.args.counts.now.parities c.requires.taken.counted (g.L.Sink.items c.args.log.now.sink.now) c.requires.taken.begun
       c.in-Assume.field-0.now c.in-Assume.ensures.within (sym c.in-Assume.ensures.item);
 }
+
+pub tell_step-requires-clause-going : goal.tell_step-requires-clause-going
+tell_step-requires-clause-going g c = c.requires.going
+
+pub tell_step-requires-in-Parity-clause-going : goal.tell_step-requires-in-Parity-clause-going
+tell_step-requires-in-Parity-clause-going g c = c.requires.going

@@ -68,3 +68,24 @@ returns-in-Some g c =
           (no_line_is_calm (g.L.Sink.lines c.args.log.now.sink.now) (c.requires.lines t)) (refuted_unmarked formula told _ refutes));
       log = goes_on_in g.L.Sink g.met.L.Sink.items_keep_else tidies _ _ _ c.in_ok-tell_originals.ensures.log;
     }
+
+pub tell_originals-requires-clause-few : goal.tell_originals-requires-clause-few
+tell_originals-requires-clause-few g c = c.requires.few
+
+pub tell_originals-requires-clause-fresh : goal.tell_originals-requires-clause-fresh
+tell_originals-requires-clause-fresh g c = c.requires.fresh
+
+pub tell_originals-requires-clause-going : goal.tell_originals-requires-clause-going
+tell_originals-requires-clause-going g c = c.requires.going
+
+pub all_parities-requires-clause-begun : goal.all_parities-requires-clause-begun
+all_parities-requires-clause-begun g c = c.in_ok-tell_originals.ensures.begun
+
+pub fill_and_search-requires-clause-budget : goal.fill_and_search-requires-clause-budget
+fill_and_search-requires-clause-budget g c = c.requires.budget
+
+pub fill_and_search-requires-clause-given : goal.fill_and_search-requires-clause-given
+fill_and_search-requires-clause-given g c = c.in_ok-parities.ensures.given
+
+pub fill_and_search-requires-clause-engines : goal.fill_and_search-requires-clause-engines
+fill_and_search-requires-clause-engines g c = c.in_ok-parities.ensures.engines

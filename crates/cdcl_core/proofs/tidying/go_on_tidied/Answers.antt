@@ -20,3 +20,12 @@ put_units-requires-clause-beside g c =
 pub returns-clause-watched : goal.returns-clause-watched
 returns-clause-watched g c = on_ok _ c.put_units.result c.put_units.ensures.stays
     (λ s. s.watched (record { fits = c.in_ok-attach_anew.ensures.fits c.args.state.now.trail (sym c.requires.variables); all = c.in_ok-attach_anew.ensures.attached }))
+
+pub put_units-requires-clause-going : goal.put_units-requires-clause-going
+put_units-requires-clause-going g c = c.requires.going
+
+pub returns-clause-puts : goal.returns-clause-puts
+returns-clause-puts g c = c.put_units.ensures.puts
+
+pub returns-clause-log : goal.returns-clause-log
+returns-clause-log g c = c.put_units.ensures.log

@@ -1,10 +1,9 @@
 use Rattle.std.proofs.lemmas.Result.{err_from_is_err_and}
-use Rattle.std.proofs.Common.{◌≡◌, refl, sym, subst, length, arith}
+use Rattle.std.proofs.Common.{◌≡◌, refl, subst, length, arith}
 use Rattle.std.specs.Prelude.{IfOk}
 use Rattle.cdcl_search.specs.GoingOn.{log_stops}
 use Rattle.cdcl_search.specs.Ties.{first_row_id}
 use Rattle.cdcl_search.proofs.LowIds.{has_ids, next_is_low, variables_are_few}
-use Rattle.cdcl_core.specs.Shortening.{EndsByUnits}
 use Rattle.cdcl_core.proofs.ShortLaws.{known_by, short_by}
 use Rattle.cdcl_core.proofs.RefutedLaws.{on_answer}
 use Rattle.cdcl_core.proofs.analyser.Analyser.end_by.Goals as goal

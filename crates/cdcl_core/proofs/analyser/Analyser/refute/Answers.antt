@@ -16,3 +16,9 @@ refute_row-requires-clause-clash g c = (subst (PropagationFinds c.args.self.now.
 
 pub unreachable-requires : goal.unreachable-requires
 unreachable-requires g c = c.requires.conflict c.in-Quiet.is
+
+pub refute_clause-requires-clause-at : goal.refute_clause-requires-clause-at
+refute_clause-requires-clause-at g c = c.requires.at
+
+pub refute_row-requires-clause-at : goal.refute_row-requires-clause-at
+refute_row-requires-clause-at g c = c.requires.at

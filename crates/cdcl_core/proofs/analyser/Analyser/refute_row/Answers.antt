@@ -24,3 +24,15 @@ pub returns-in_err-reason : goal.returns-in_err-reason
 returns-in_err-reason g c =
     let fault = err_from_is_err_and c.from_residual.result c.from_residual.ensures.1 in
     rw (fault.1, fault.2) (record { ends = record { refutes = tt; log = log_stops g.L.Sink g.met.L.Sink.keeps_itself c.args.self.now.log.now }; none = tt; clear = tt; lent = record { state = refl; engine = refl; log = refl; marks = refl } })
+
+pub refute_row_beside-requires-clause-at : goal.refute_row_beside-requires-clause-at
+refute_row_beside-requires-clause-at g c = c.requires.at
+
+pub refute_row_beside-requires-clause-first : goal.refute_row_beside-requires-clause-first
+refute_row_beside-requires-clause-first g c = c.requires.first
+
+pub refute_row_alone-requires-clause-at : goal.refute_row_alone-requires-clause-at
+refute_row_alone-requires-clause-at g c = c.requires.at
+
+pub refute_row_alone-requires-clause-first : goal.refute_row_alone-requires-clause-first
+refute_row_alone-requires-clause-first g c = c.requires.first

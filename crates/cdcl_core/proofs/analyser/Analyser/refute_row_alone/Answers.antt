@@ -1,9 +1,11 @@
-use Rattle.std.proofs.Common.{◌∙◌, ap, sym, subst, None}
+use Rattle.std.proofs.Common.{◌∙◌, ap, sym, subst, None, refl}
 use Rattle.cx_base.specs.Assumptions.{is_ending}
 use Rattle.cx_base.specs.Problem.{Problem}
 use Rattle.cdcl_search.specs.GoingOn.{log_then}
 use Rattle.cdcl_core.specs.Refuting.{IsFirst}
 use Rattle.cdcl_core.proofs.BesideLaws.{reason_explains, told_conflict}
+use Rattle.std.proofs.lemmas.Result.{err_from_is_err_and}
+use Rattle.cdcl_search.specs.Ties.{SearchStands}
 use Rattle.cdcl_core.proofs.analyser.Analyser.refute_row_alone.Goals as goal
 
 pub refute_ending-requires-clause-ending : goal.refute_ending-requires-clause-ending
@@ -34,3 +36,40 @@ returns g c = record {
   clear = c.refute_told.ensures.clear;
   lent = record { state = c.refute_told.ensures.lent.state; engine = c.refute_told.ensures.lent.engine; log = c.refute_told.ensures.lent.log; marks = c.refute_told.ensures.lent.marks };
 }
+
+pub refute_ending-requires-clause-at : goal.refute_ending-requires-clause-at
+refute_ending-requires-clause-at g c = record {
+  stands = subst (λ rows. SearchStands c.args.self.now.log.now.formula.now c.args.self.now.state.now (g.P.ParityEngine.state c.args.self.now.engine.now) rows (g.L.Sink.items c.args.self.now.log.now.sink.now)) (sym c.new-rows.ensures.items) c.requires.at.stands;
+  level = c.requires.at.level;
+  clear = c.requires.at.clear;
+  going = c.requires.at.going;
+}
+
+pub refute_ending-requires-clause-rows : goal.refute_ending-requires-clause-rows
+refute_ending-requires-clause-rows g c = c.new-rows.ensures.items
+
+pub refute_ending-requires-clause-first : goal.refute_ending-requires-clause-first
+refute_ending-requires-clause-first g c = c.requires.first
+
+pub refute_ending-requires-clause-none : goal.refute_ending-requires-clause-none
+refute_ending-requires-clause-none g c = c.requires.none
+
+pub refute_ending-requires-clause-reason : goal.refute_ending-requires-clause-reason
+refute_ending-requires-clause-reason g c = c.requires.reason
+
+pub told_row-requires-clause-stands : goal.told_row-requires-clause-stands
+told_row-requires-clause-stands g c = c.requires.at.stands
+
+pub told_row-requires-clause-going : goal.told_row-requires-clause-going
+told_row-requires-clause-going g c = c.requires.at.going
+
+pub refute_told-requires-clause-at : goal.refute_told-requires-clause-at
+refute_told-requires-clause-at g c = record { stands = c.in_ok-conflict.ensures.stands; level = c.requires.at.level; clear = c.requires.at.clear; going = c.in_ok-conflict.ensures.log.failed ∙ c.requires.at.going }
+
+pub refute_told-requires-clause-none : goal.refute_told-requires-clause-none
+refute_told-requires-clause-none g c = c.requires.none
+
+pub returns-in_err-conflict : goal.returns-in_err-conflict
+returns-in_err-conflict g c =
+    let fault = err_from_is_err_and c.from_residual.result c.from_residual.ensures.1 in
+    rw (fault.1, fault.2) (record { ends = record { refutes = tt; log = c.in_err-conflict.ensures.log }; none = tt; clear = tt; lent = record { state = refl; engine = refl; log = refl; marks = refl } })

@@ -1,4 +1,4 @@
-use Rattle.std.proofs.Common.{refl, sym, subst, None}
+use Rattle.std.proofs.Common.{refl, sym, subst, None, ◌∙◌}
 use Rattle.cx_base.specs.Problem.{Problem}
 use Rattle.std.proofs.lemmas.Result.{err_from_is_err_and}
 use Rattle.cdcl_search.specs.GoingOn.{log_stops, log_then}
@@ -41,3 +41,32 @@ returns-in_err-told g c =
       clear = tt;
       lent = record { state = refl; engine = refl; log = refl; marks = refl };
     })
+
+pub going_on-requires-clause-sound : goal.going_on-requires-clause-sound
+going_on-requires-clause-sound g c = c.requires.at.stands.3.trail.follows.sound
+
+pub going_on-requires-clause-apart : goal.going_on-requires-clause-apart
+going_on-requires-clause-apart g c = c.requires.at.stands.1.log.apart
+
+pub going_on-requires-clause-reason : goal.going_on-requires-clause-reason
+going_on-requires-clause-reason g c = c.requires.reason
+
+pub going_on-requires-clause-first : goal.going_on-requires-clause-first
+going_on-requires-clause-first g c = c.requires.first
+
+pub told_row-requires-clause-stands : goal.told_row-requires-clause-stands
+told_row-requires-clause-stands g c = c.requires.at.stands
+
+pub told_row-requires-clause-goes_on : goal.told_row-requires-clause-goes_on
+told_row-requires-clause-goes_on g c = c.in_ok-told.ensures.goes_on
+
+pub told_row-requires-clause-going : goal.told_row-requires-clause-going
+told_row-requires-clause-going g c = c.requires.at.going
+
+pub refute_by-requires-clause-at : goal.refute_by-requires-clause-at
+refute_by-requires-clause-at g c = record { stands = c.in_ok-conflict.ensures.stands; level = c.requires.at.level; clear = c.requires.at.clear; going = c.in_ok-conflict.ensures.log.failed ∙ c.requires.at.going }
+
+pub returns-in_err-conflict : goal.returns-in_err-conflict
+returns-in_err-conflict g c =
+    let fault = err_from_is_err_and c.from_residual-in_err-conflict.result c.from_residual-in_err-conflict.ensures.1 in
+    rw (fault.1, fault.2) (record { ends = record { refutes = tt; log = c.in_err-conflict.ensures.log }; none = tt; clear = tt; lent = record { state = refl; engine = refl; log = refl; marks = refl } })

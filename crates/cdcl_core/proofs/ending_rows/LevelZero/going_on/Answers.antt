@@ -20,3 +20,12 @@ pub returns-clause-variables : goal.returns-clause-variables
 returns-clause-variables g c =
     let ends : is_ending c.args.self.now.formula.now.constraints c.args.reason.clause ≡ true = ap (is_ending c.args.self.now.formula.now.constraints) (sym c.as_slice-clause.ensures) ∙ sym c.is_ending.ensures ∙ c.if-not-is_ending.false in
     sum_variables_ok c.args.self.now.formula.now.constraints c.args.reason.clause c.args.first.now c.in-Some.row c.in-Some.is ends c.sum_of_reasons.result c.sum_of_reasons.ensures.variables
+
+pub returns-then-not-is_ending-clause-reason : goal.returns-then-not-is_ending-clause-reason
+returns-then-not-is_ending-clause-reason g c = c.requires.reason
+
+pub sum_of_reasons-requires-clause-one : goal.sum_of_reasons-requires-clause-one
+sum_of_reasons-requires-clause-one g c = c.requires.reason
+
+pub returns-clause-reason : goal.returns-clause-reason
+returns-clause-reason g c = c.sum_of_reasons.ensures.reason

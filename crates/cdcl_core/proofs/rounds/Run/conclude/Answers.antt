@@ -66,3 +66,6 @@ values_of-requires-clause-full g c = let is : c.args.reached ≡ reached.Found Q
 pub values_of-requires-clause-assumed : goal.values_of-requires-clause-assumed
 values_of-requires-clause-assumed g c = let is : c.args.reached ≡ reached.Found Quiet = search rules in all_assumed_true c.args.self.now.log.now.formula.now.constraints c.args.assumptions.now c.args.self.now.state.now.trail c.requires.searches.keeps
     (rw is at c.requires.reaches.settles).1 (c.requires.reaches.full is)
+
+pub conclude_failed-requires-clause-searches : goal.conclude_failed-requires-clause-searches
+conclude_failed-requires-clause-searches g c = c.requires.searches

@@ -103,3 +103,27 @@ returns-in_ok-failed-in-Ending-clause-none g c = λ level. absurd (let above = c
 
 pub returns-in-Clause-clause-none : goal.returns-in-Clause-clause-none
 returns-in-Clause-clause-none g c = λ level. absurd (let above = c.if-level-assumptions.false in let at = c.level.ensures.level in omega (arith, above, at, level))
+
+pub conflict_clause-requires-clause-stands : goal.conflict_clause-requires-clause-stands
+conflict_clause-requires-clause-stands g c = c.requires.searches.stands
+
+pub conflict_clause-requires-clause-found : goal.conflict_clause-requires-clause-found
+conflict_clause-requires-clause-found g c = c.requires.reaches.settles.0
+
+pub conflict_clause-requires-clause-conflict : goal.conflict_clause-requires-clause-conflict
+conflict_clause-requires-clause-conflict g c = c.requires.conflict
+
+pub conflict_clause-requires-clause-going : goal.conflict_clause-requires-clause-going
+conflict_clause-requires-clause-going g c = c.requires.searches.going
+
+pub end-requires-clause-concludes : goal.end-requires-clause-concludes
+end-requires-clause-concludes g c = c.in_ok-conclusion.ensures.concludes_on.concludes
+
+pub end-requires-clause-clear : goal.end-requires-clause-clear
+end-requires-clause-clear g c = c.requires.searches.clear
+
+pub tell_ending-requires-clause-ends : goal.tell_ending-requires-clause-ends
+tell_ending-requires-clause-ends g c = (rw c.in-Ending.is at c.in_ok-conclusion.ensures.concludes_on.concludes).1
+
+pub returns-in-Clause-clause-at_start : goal.returns-in-Clause-clause-at_start
+returns-in-Clause-clause-at_start g c = λ level. absurd (let above = c.if-level-assumptions.false in let at = c.level.ensures.level in omega (arith, above, at, level))

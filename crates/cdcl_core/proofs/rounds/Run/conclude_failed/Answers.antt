@@ -47,3 +47,24 @@ end-requires-clause-at g c =
     subst (λ (f : Problem). EndsAtPlace f.constraints c.args.self.now.state.now.trail (Some c.entry-literal.result.literal) c.args.place) (sym c.in_ok-conclusion.ensures.log.formula)
     (subst (λ l. EndsAtPlace c.args.self.now.log.now.formula.now.constraints c.args.self.now.state.now.trail (Some l) c.args.place) (search rules)
     (failed_ends_at c.args.self.now.log.now.formula.now.constraints c.args.assumptions.now c.args.self.now.state.now.trail c.requires.searches.keeps c.requires.searches.stands.3.trail.follows.sound c.args.place p.0 p.1 p.2))
+
+pub refute_conflict-requires-clause-found : goal.refute_conflict-requires-clause-found
+refute_conflict-requires-clause-found g c = c.requires.found
+
+pub clause_against-requires-clause-stands : goal.clause_against-requires-clause-stands
+clause_against-requires-clause-stands g c = c.requires.searches.stands
+
+pub clause_against-requires-clause-place : goal.clause_against-requires-clause-place
+clause_against-requires-clause-place g c = c.requires.place.1
+
+pub clause_against-requires-clause-keeps : goal.clause_against-requires-clause-keeps
+clause_against-requires-clause-keeps g c = c.requires.searches.keeps
+
+pub clause_against-requires-clause-contradicts : goal.clause_against-requires-clause-contradicts
+clause_against-requires-clause-contradicts g c = c.requires.place.2
+
+pub clause_against-requires-clause-going : goal.clause_against-requires-clause-going
+clause_against-requires-clause-going g c = c.requires.searches.going
+
+pub end-requires-clause-clear : goal.end-requires-clause-clear
+end-requires-clause-clear g c = c.requires.searches.clear
