@@ -128,16 +128,18 @@ fn add_both(table: &mut WordTable, row: usize, words: &mut [u64], other: &[u64])
     }
 }
 
-/// Places of a row of 20 words. The last but three is in the ninth word that is not zero, and one word becomes zero before.
-const PLACES: [usize; 15] = [
-    1217, 5, 450, 1279, 64, 700, 389, 833, 5, 960, 127, 577, 1100, 577, 3,
+/// Places of a row of 20 words. The last but three is in one word more than are kept by their places, and one word becomes
+/// zero before.
+const PLACES: [usize; 23] = [
+    1217, 5, 450, 1279, 64, 700, 389, 833, 5, 960, 127, 200, 1100, 300, 130, 620, 715, 800, 900,
+    360, 1179, 360, 3,
 ];
 
 /// A row of words in which some bits are set.
 fn words_with(alloc: Global, len: usize, word: u64, every: usize) -> Result<Vec<u64>, AllocError> {
     let mut words = Vec::new(alloc);
     for i in 0..len {
-        words.push(if every != 0 && i % every == 1 {
+        words.push(if every != 0 && i % every <= 1 {
             word
         } else {
             0
