@@ -43,7 +43,7 @@ impl Model for Arena {
     ghost invariant = { λ a. AreHeads a.lits.items a.ends.items a.heads.items };
 }
 
-// Where the literals of the clause at a place begin.
+/// Where the literals of the clause at a place begin.
 fn start(ends: &[usize], place: usize) -> usize
     requires { place ≤ length ends.now }
     ensures { result ≡ slice_index (0 ∷ ends.now) place }
@@ -51,7 +51,7 @@ fn start(ends: &[usize], place: usize) -> usize
     if place == 0 { 0 } else { ends[place - 1] }
 }
 
-// The literals of the clause at a place.
+/// The literals of the clause at a place.
 fn part<'a>(lits: &'a [Lit], ends: &[usize], place: usize) -> &'a [Lit]
     requires place { place < length ends.now }
     requires order { RiseTo 0 ends.now (length lits.now) }
@@ -60,7 +60,7 @@ fn part<'a>(lits: &'a [Lit], ends: &[usize], place: usize) -> &'a [Lit]
     &lits[start(ends, place)..ends[place]]
 }
 
-// Appends literals for which there is room.
+/// Appends literals for which there is room.
 fn append(into: &mut Vec<Lit>, lits: &[Lit])
     requires { vec_len into.old + length lits.now ≤ vec_capacity into.old }
     ensures items { into.new.items ≡ into.old.items ++ lits.now }
@@ -71,7 +71,7 @@ fn append(into: &mut Vec<Lit>, lits: &[Lit])
     }
 }
 
-// Makes room for this many more, where it is missing: the vector grows by half or more, so that an element costs constant time.
+/// Makes room for this many more, where it is missing: the vector grows by half or more, so that an element costs constant time.
 fn make_room<T>(items: &mut Vec<T>, more: usize) -> Result<(), AllocError>
     ensures items { items.new.items ≡ items.old.items }
     ensures room { OnOk result (vec_len items.new + more ≤ vec_capacity items.new) }

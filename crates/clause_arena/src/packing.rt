@@ -6,7 +6,7 @@ ghost use Rattle.clause_arena.specs.Packing.{IsCut, IsPacked};
 use crate::head::Head;
 use cx_base::{ClauseRef, Lit, Move};
 
-// Moves the live clauses down in their order, each to the end of those before it, and cuts what is after the last.
+/// Moves the live clauses down in their order, each to the end of those before it, and cuts what is after the last.
 pub(crate) fn pack(
     ends: &mut Vec<usize>,
     heads: &mut Vec<Head>,

@@ -106,7 +106,7 @@ static ACTS: [Act; 13] = [
     Act::ShowTrail,
 ];
 
-// the clause of the first literal, which is of level 0, is gone
+/// the clause of the first literal, which is of level 0, is gone
 const WANTED: &str = "\
 true
 true

@@ -46,7 +46,7 @@ fn a_restart_is_due_after_a_hundred_conflicts_for_each(rt: HostRuntime) {
     expect_equal(&rt, &due, &[false, true, false, true, false, true]);
 }
 
-// The card of a learned clause whose reference is ten more than its id.
+/// The card of a learned clause whose reference is ten more than its id.
 fn card(id: u32, lbd: u32, is_reason: bool) -> Card {
     Card {
         reference: ClauseRef::new(id.saturating_add(10)),

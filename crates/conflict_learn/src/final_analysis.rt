@@ -27,7 +27,7 @@ pub struct Final {
     pub resolved: Vec<Resolved>,
 }
 
-// Whether the literal was decided.
+/// Whether the literal was decided.
 fn is_decided(entry: &Entry) -> bool
     ensures decided { IsTrue result → (0 < entry.now.level) × (entry.now.reason ≡ Decision) }
     ensures forced { IsFalse result → 0 < entry.now.level → entry.now.reason ≢ Decision }

@@ -12,14 +12,14 @@ use cx_base::Lit;
 use cx_trail::Trail;
 use std::alloc::AllocError;
 
-// Whether a level was not met before, where equal levels are next to one another.
+/// Whether a level was not met before, where equal levels are next to one another.
 fn is_new(index: usize, level: u32, last: u32) -> bool
     ensures { result ≡ (index == 0 || not (level == last)) }
 {
     index == 0 || level != last
 }
 
-// The level of the second literal, 0 where there is none, and how many levels the literals have.
+/// The level of the second literal, 0 where there is none, and how many levels the literals have.
 pub(crate) fn levels_of(trail: &Trail, lits: &[Lit]) -> (u32, u32)
     requires few { length lits.now ≤ MAX_VARIABLE }
     requires places { (places : List ℕ) × ArePlacesOf trail.now lits.now places }
@@ -44,7 +44,7 @@ pub(crate) fn levels_of(trail: &Trail, lits: &[Lit]) -> (u32, u32)
     (back_level, count)
 }
 
-// Marks the levels of the literals. The result is their number.
+/// Marks the levels of the literals. The result is their number.
 fn mark_levels(trail: &Trail, lits: &[Lit], marks: &mut Marks) -> usize
     requires sound { IsTrail trail.now }
     requires assigned { All (λ l. IsAssignedIn trail.now.entries l.variable) lits.now }
@@ -63,7 +63,7 @@ fn mark_levels(trail: &Trail, lits: &[Lit], marks: &mut Marks) -> usize
     count
 }
 
-// Takes the marks of the literals' levels away.
+/// Takes the marks of the literals' levels away.
 fn clear_levels(trail: &Trail, lits: &[Lit], marks: &mut Marks)
     requires sound { IsTrail trail.now }
     requires assigned { All (λ l. IsAssignedIn trail.now.entries l.variable) lits.now }

@@ -33,7 +33,7 @@ impl Marks {
         }
     }
 
-    // Adds clear marks until there is one for this variable.
+    /// Adds clear marks until there is one for this variable.
     pub(crate) fn reach(&mut self, vars: u32) -> Result<(), AllocError>
         ensures same { (v : ℕ) → is_marked self.new v ≡ is_marked self.old v }
         ensures reached { OnOk result (vars < length self.new) }
@@ -42,7 +42,7 @@ impl Marks {
         self.marks.resize(count, false)
     }
 
-    // Whether the variable is marked.
+    /// Whether the variable is marked.
     pub(crate) fn has(&self, variable: Var) -> bool
         requires { variable < length self.now }
         ensures { result ≡ is_marked self.now variable }
@@ -50,7 +50,7 @@ impl Marks {
         self.marks[variable.number() as usize]
     }
 
-    // Marks the variable.
+    /// Marks the variable.
     pub(crate) fn mark(&mut self, variable: Var)
         requires { variable < length self.old }
         ensures { self.new ≡ set self.old variable true }
@@ -58,7 +58,7 @@ impl Marks {
         self.marks[variable.number() as usize] = true;
     }
 
-    // Takes the variable's mark away.
+    /// Takes the variable's mark away.
     pub(crate) fn clear(&mut self, variable: Var)
         requires { variable < length self.old }
         ensures { self.new ≡ set self.old variable false }
@@ -66,7 +66,7 @@ impl Marks {
         self.marks[variable.number() as usize] = false;
     }
 
-    // Marks the level. The result is whether it was marked.
+    /// Marks the level. The result is whether it was marked.
     pub(crate) fn meet(&mut self, level: u32) -> bool
         requires { level < length self.old }
         ensures was { result ≡ is_marked self.old level }
@@ -77,7 +77,7 @@ impl Marks {
         was
     }
 
-    // Takes the level's mark away.
+    /// Takes the level's mark away.
     pub(crate) fn leave(&mut self, level: u32)
         requires { level < length self.old }
         ensures { self.new ≡ set self.old level false }

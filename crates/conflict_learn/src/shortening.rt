@@ -12,7 +12,7 @@ use crate::marks::Marks;
 use cx_base::Lit;
 use cx_trail::{Reason, Trail};
 
-// Whether a false literal is marked, or false at level 0.
+/// Whether a false literal is marked, or false at level 0.
 fn is_marked_or_fixed(trail: &Trail, marks: &Marks, literal: Lit) -> bool
     requires wide { trail.now.variables < length marks.now }
     requires negated { IsFalseIn trail.now.entries literal }
@@ -23,14 +23,14 @@ fn is_marked_or_fixed(trail: &Trail, marks: &Marks, literal: Lit) -> bool
     marks.has(literal.var()) || trail.entry(trail.place_of(literal)).level == 0
 }
 
-// Whether it is the same literal.
+/// Whether it is the same literal.
 fn is_same(own: Lit, literal: Lit) -> bool
     ensures { result ≡ same_literal own literal }
 {
     own == literal
 }
 
-// Whether each literal of the clause but its own has a marked variable or level 0.
+/// Whether each literal of the clause but its own has a marked variable or level 0.
 fn is_covered(trail: &Trail, marks: &Marks, own: Lit, clause: &[Lit]) -> bool
     requires wide { trail.now.variables < length marks.now }
     requires negated { (m : Literal) → IsTrue (has_literal clause.now m) → IsFalse (same_literal own m) → IsFalseIn trail.now.entries m }
@@ -44,7 +44,7 @@ fn is_covered(trail: &Trail, marks: &Marks, own: Lit, clause: &[Lit]) -> bool
     true
 }
 
-// Whether a literal of the trail may be dropped: an antecedent's other literals are marked or of level 0.
+/// Whether a literal of the trail may be dropped: an antecedent's other literals are marked or of level 0.
 pub(crate) fn is_redundant<S: Antecedents>(
     trail: &Trail,
     marks: &Marks,

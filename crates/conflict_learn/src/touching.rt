@@ -11,7 +11,7 @@ use crate::marks::Marks;
 use cx_base::Lit;
 use cx_trail::Trail;
 
-// Whether the literal is the one to be skipped.
+/// Whether the literal is the one to be skipped.
 fn is_skipped(skip: &Option<Lit>, literal: Lit) -> bool
     ensures { result ≡ skips skip.now literal }
 {
@@ -21,7 +21,7 @@ fn is_skipped(skip: &Option<Lit>, literal: Lit) -> bool
     }
 }
 
-// Marks the variables of the literals but the skipped one. The result is the lowest place of a marked one.
+/// Marks the variables of the literals but the skipped one. The result is the lowest place of a marked one.
 pub(crate) fn touch(
     trail: &Trail,
     literals: &[Lit],
@@ -49,7 +49,7 @@ pub(crate) fn touch(
     low
 }
 
-// The greatest place below one whose variable is marked. None is marked at lower places than the lowest.
+/// The greatest place below one whose variable is marked. None is marked at lower places than the lowest.
 pub(crate) fn last_marked(trail: &Trail, marks: &Marks, from: usize, lowest: usize) -> Option<usize>
     requires bound { from ≤ length trail.now.entries }
     requires wide { trail.now.variables < length marks.now }

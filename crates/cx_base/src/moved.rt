@@ -30,7 +30,7 @@ impl Model for Moved {
     ghost invariant = { λ a. IsRising a.moves.items };
 }
 
-// The place of the first move whose old reference is not below this one.
+/// The place of the first move whose old reference is not below this one.
 fn place_of(moves: &[Move], old: u32) -> usize
     requires { IsRising moves.now }
     ensures below { (i : ℕ) → i < result → (move_at moves.now i).old < old }

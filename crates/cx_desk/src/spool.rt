@@ -121,7 +121,7 @@ impl<D: Desk> Desk for Spool<D> {
         Ok(())
     }
 
-    // An answer goes out only where nothing of the proof waits.
+    /// An answer goes out only where nothing of the proof waits.
     fn put(&mut self, port: Port, piece: &[u8]) -> Result<usize, Failed>
         requires { 0 < length piece.now }
         ensures puts { Puts port piece.now (spooled D.outside self.old) result (spooled D.outside self.new) }

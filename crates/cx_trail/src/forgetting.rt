@@ -4,7 +4,7 @@ ghost use Rattle.cx_trail.specs.Forgetting.{forgotten, forgotten_reason};
 
 use crate::entry::{Entry, Reason};
 
-// The reason that is left of a literal of this level.
+/// The reason that is left of a literal of this level.
 fn forget_reason(reason: Reason, level: u32) -> Reason
     ensures { result ≡ forgotten_reason level reason }
 {
@@ -14,7 +14,7 @@ fn forget_reason(reason: Reason, level: u32) -> Reason
     }
 }
 
-// The entry, without its reason at level 0.
+/// The entry, without its reason at level 0.
 fn forget_entry(entry: Entry) -> Entry
     ensures { result ≡ forgotten entry }
 {
@@ -22,7 +22,7 @@ fn forget_entry(entry: Entry) -> Entry
     Entry { reason, ..entry }
 }
 
-// Forgets the reasons of the first entries, where these are of level 0.
+/// Forgets the reasons of the first entries, where these are of level 0.
 pub(crate) fn forget_entries(entries: &mut Vec<Entry>, count: usize)
     requires { count ≤ length entries.old.items }
     ensures { entries.new.items ≡ map forgotten (take count entries.old.items) ++ drop count entries.old.items }

@@ -6,7 +6,7 @@ ghost use Rattle.cx_trail.specs.Renaming.{clause_under, renamed_reason, renamed}
 use crate::entry::{Entry, Reason};
 use cx_base::{ClauseRef, Moved};
 
-// The clause as a reason under its new reference. At level 0 one that has none is no reason any more.
+/// The clause as a reason under its new reference. At level 0 one that has none is no reason any more.
 fn rename_clause(old: ClauseRef, level: u32, moved: &Moved) -> Reason
     ensures { result ≡ clause_under (moved_to moved.now old) level old }
 {
@@ -17,7 +17,7 @@ fn rename_clause(old: ClauseRef, level: u32, moved: &Moved) -> Reason
     }
 }
 
-// The reason of a literal of this level with the new reference of its clause.
+/// The reason of a literal of this level with the new reference of its clause.
 fn rename_reason(reason: Reason, level: u32, moved: &Moved) -> Reason
     ensures { result ≡ renamed_reason moved.now level reason }
 {
@@ -27,7 +27,7 @@ fn rename_reason(reason: Reason, level: u32, moved: &Moved) -> Reason
     }
 }
 
-// The entry with the new reference of its reason's clause.
+/// The entry with the new reference of its reason's clause.
 fn rename_entry(entry: Entry, moved: &Moved) -> Entry
     ensures { result ≡ renamed moved.now entry }
 {
@@ -35,7 +35,7 @@ fn rename_entry(entry: Entry, moved: &Moved) -> Entry
     Entry { reason, ..entry }
 }
 
-// Renames the first entries.
+/// Renames the first entries.
 pub(crate) fn rename_entries(entries: &mut Vec<Entry>, count: usize, moved: &Moved)
     requires { count ≤ length entries.old.items }
     ensures { entries.new.items ≡ map (renamed moved.now) (take count entries.old.items) ++ drop count entries.old.items }

@@ -42,7 +42,7 @@ impl Model for Trail {
     ghost invariant = { λ t. IsKept t.vars t.depth t.count t.cells.items t.places.items t.truths.items };
 }
 
-// Gives a literal and its negation their values.
+/// Gives a literal and its negation their values.
 fn set_truths(truths: &mut Vec<Truth>, literal: Lit, of_literal: Truth, of_negation: Truth)
     requires own { code_of literal < length truths.old.items }
     requires other { code_of (negate literal) < length truths.old.items }
@@ -52,7 +52,7 @@ fn set_truths(truths: &mut Vec<Truth>, literal: Lit, of_literal: Truth, of_negat
     truths[literal.negate().code()] = of_negation;
 }
 
-// How many of the first `count` cells have levels up to `level`. The literals of the others become unassigned.
+/// How many of the first `count` cells have levels up to `level`. The literals of the others become unassigned.
 fn cut(cells: &[Entry], truths: &mut Vec<Truth>, count: usize, level: u32) -> usize
     requires count { count ≤ length cells.now }
     requires size { length truths.old.items ≡ 2 * length cells.now + 2 }
@@ -183,7 +183,7 @@ impl Trail {
         self.places[literal.var().number() as usize] as usize
     }
 
-    // The entry of an assigned variable.
+    /// The entry of an assigned variable.
     fn entry_of(&self, variable: Var) -> Entry
         requires { IsAssignedIn self.now.entries variable }
         ensures { (e : Entry) → HasEntry self.now.entries variable e → result ≡ e }
@@ -208,7 +208,7 @@ impl Trail {
         self.entry_of(variable).reason
     }
 
-    // Puts a literal at the end.
+    /// Puts a literal at the end.
     fn push(&mut self, literal: Lit, level: u32, reason: Reason)
         requires high { literal.variable ≤ self.old.variables }
         requires open { IsOpenIn self.old.entries literal.variable }

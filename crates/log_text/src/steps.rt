@@ -238,7 +238,7 @@ impl StepGrammar for LogGrammar {
         take_step(spare, tokens, size)
     }
 
-    // after a clause its hints may follow
+    /// after a clause its hints may follow
     fn is_closed(step: &LogStep) -> bool {
         !matches!(step, LogStep::Clause(_, _))
     }

@@ -14,7 +14,7 @@ pub(crate) struct Heap {
     pub places: Vec<u32>,
 }
 
-// Whether one variable comes before another.
+/// Whether one variable comes before another.
 fn is_ahead(scores: &[u32], one: u32, other: u32) -> bool
     requires one { one < length scores.now }
     requires other { other < length scores.now }
@@ -25,7 +25,7 @@ fn is_ahead(scores: &[u32], one: u32, other: u32) -> bool
     if mine == its { one < other } else { mine > its }
 }
 
-// Swaps two cells.
+/// Swaps two cells.
 fn swap(heap: &mut Heap, i: usize, j: usize)
     requires shuffled { AreShuffled (length heap.old.cells.items) heap.old.cells.items heap.old.places.items }
     requires few { length heap.old.cells.items ≤ MAX_VARIABLE }
@@ -42,7 +42,7 @@ fn swap(heap: &mut Heap, i: usize, j: usize)
     heap.places[one as usize] = j as u32;
 }
 
-// Lets a cell rise to where it belongs.
+/// Lets a cell rise to where it belongs.
 pub(crate) fn sift_up(scores: &[u32], heap: &mut Heap, count: usize, start: usize)
     requires shuffled { AreShuffled (length scores.now) heap.old.cells.items heap.old.places.items }
     requires few { length scores.now ≤ MAX_VARIABLE }
@@ -64,7 +64,7 @@ pub(crate) fn sift_up(scores: &[u32], heap: &mut Heap, count: usize, start: usiz
     }
 }
 
-// The better one of a cell's two children.
+/// The better one of a cell's two children.
 fn better_child(scores: &[u32], heap: &Heap, count: usize, first: usize) -> usize
     requires shuffled { AreShuffled (length scores.now) heap.now.cells.items heap.now.places.items }
     requires count { count ≤ length scores.now }
@@ -79,7 +79,7 @@ fn better_child(scores: &[u32], heap: &Heap, count: usize, first: usize) -> usiz
     }
 }
 
-// Lets a cell sink to where it belongs.
+/// Lets a cell sink to where it belongs.
 fn sift_down(scores: &[u32], heap: &mut Heap, count: usize, start: usize)
     requires shuffled { AreShuffled (length scores.now) heap.old.cells.items heap.old.places.items }
     requires few { length scores.now ≤ MAX_VARIABLE }
@@ -101,7 +101,7 @@ fn sift_down(scores: &[u32], heap: &mut Heap, count: usize, start: usize)
     }
 }
 
-// Whether the variable is assigned.
+/// Whether the variable is assigned.
 fn is_assigned(trail: &Trail, index: u32) -> bool
     requires { index + 1 ≤ trail.now.variables }
     ensures { MatchBool result (IsOpenIn trail.now.entries (index + 1) → ⊥) (IsOpenIn trail.now.entries (index + 1)) }
@@ -111,7 +111,7 @@ fn is_assigned(trail: &Trail, index: u32) -> bool
     trail.value(Var::new(index + 1)).is_some()
 }
 
-// Takes assigned variables off the top. How many variables are left in the heap.
+/// Takes assigned variables off the top. How many variables are left in the heap.
 pub(crate) fn settle(scores: &[u32], heap: &mut Heap, count: usize, trail: &Trail) -> usize
     requires order { IsOrder scores.now heap.old.cells.items heap.old.places.items count }
     requires few { length scores.now ≤ MAX_VARIABLE }
@@ -131,7 +131,7 @@ pub(crate) fn settle(scores: &[u32], heap: &mut Heap, count: usize, trail: &Trai
     left
 }
 
-// Puts a variable into the heap, if it is not there. How many are in the heap then.
+/// Puts a variable into the heap, if it is not there. How many are in the heap then.
 fn insert(scores: &[u32], heap: &mut Heap, count: usize, index: u32) -> usize
     requires order { IsOrder scores.now heap.old.cells.items heap.old.places.items count }
     requires few { length scores.now ≤ MAX_VARIABLE }
@@ -149,7 +149,7 @@ fn insert(scores: &[u32], heap: &mut Heap, count: usize, index: u32) -> usize
     count + 1
 }
 
-// Puts the variables of the trail's levels above this one into the heap. How many are in the heap then.
+/// Puts the variables of the trail's levels above this one into the heap. How many are in the heap then.
 pub(crate) fn put_back(
     scores: &[u32],
     heap: &mut Heap,
@@ -174,7 +174,7 @@ pub(crate) fn put_back(
     left
 }
 
-// Makes the first cells a heap again.
+/// Makes the first cells a heap again.
 pub(crate) fn rebuild(scores: &[u32], heap: &mut Heap, count: usize)
     requires shuffled { AreShuffled (length scores.now) heap.old.cells.items heap.old.places.items }
     requires few { length scores.now ≤ MAX_VARIABLE }

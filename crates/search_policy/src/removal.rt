@@ -21,7 +21,7 @@ pub struct Card {
 }
 
 impl Card {
-    // Whether the clause may be removed.
+    /// Whether the clause may be removed.
     fn may_go(&self) -> bool
         ensures { result ≡ may_go self.now }
     {
@@ -29,14 +29,14 @@ impl Card {
     }
 }
 
-// Keeps the cards of the clauses that may be removed.
+/// Keeps the cards of the clauses that may be removed.
 fn keep_candidates(cards: &mut Vec<Card>)
     ensures { cards.new.items ≡ filter may_go cards.old.items }
 {
     cards.retain(|card| card.may_go());
 }
 
-// Puts those first that go first.
+/// Puts those first that go first.
 fn sort(cards: &mut Vec<Card>)
     ensures all { IsPermutation cards.old.items cards.new.items }
     ensures sorted { IsSortedBy goes_before cards.new.items }
@@ -44,7 +44,7 @@ fn sort(cards: &mut Vec<Card>)
     cards.sort_unstable_by_key(|card| (Reverse(card.lbd), card.id));
 }
 
-// The references of the cards.
+/// The references of the cards.
 fn references(alloc: Global, cards: &[Card]) -> Result<Vec<ClauseRef>, AllocError>
     ensures { IfOk result (λ v. v.items ≡ map (λ c. c.reference) cards.now) }
 {

@@ -5,7 +5,7 @@ ghost use Rattle.search_policy.specs.Restarts.{IsLuby, IsDue};
 /// How many conflicts one unit of Luby's sequence is.
 const UNIT: u64 = 100;
 
-// The greatest power of two that is not above the number.
+/// The greatest power of two that is not above the number.
 fn power_within(i: u64) -> u64
     requires { 1 ≤ i }
     ensures power { (k : ℕ) × (result ≡ 2 ^ k) }

@@ -6,7 +6,7 @@ ghost use Rattle.search_policy.specs.Scores.{Picks};
 use cx_base::Var;
 use cx_trail::Trail;
 
-// The better of the best so far and one more variable.
+/// The better of the best so far and one more variable.
 fn better(scores: &[u32], trail: &Trail, best: Option<Var>, next: u32) -> Option<Var>
     requires count { length scores.now ≡ trail.now.variables }
     requires next { next < length scores.now }
@@ -30,7 +30,7 @@ fn better(scores: &[u32], trail: &Trail, best: Option<Var>, next: u32) -> Option
     }
 }
 
-// The unassigned variable of the greatest score, of several the least.
+/// The unassigned variable of the greatest score, of several the least.
 pub(crate) fn scan(scores: &[u32], trail: &Trail) -> Option<Var>
     requires count { length scores.now ≡ trail.now.variables }
     requires few { length scores.now ≤ MAX_VARIABLE }

@@ -10,7 +10,7 @@ pub(crate) const SCORE_LIMIT: u32 = 1_000_000_000;
 /// How many bumps are made at once at most, so that they halve the scores once at most.
 pub const MAX_BUMPS: u32 = 250_000_000;
 
-// Halves each score, rounded down.
+/// Halves each score, rounded down.
 fn halve(scores: &mut Vec<u32>)
     ensures { scores.new.items ≡ map (λ s. s / 2) scores.old.items }
 {
@@ -19,7 +19,7 @@ fn halve(scores: &mut Vec<u32>)
     }
 }
 
-// Bumps the score at a place this many times. Whether all scores were halved on the way.
+/// Bumps the score at a place this many times. Whether all scores were halved on the way.
 pub(crate) fn raise(scores: &mut Vec<u32>, at: usize, times: u32) -> bool
     requires at { at < length scores.old.items }
     requires small { All (λ s. s < SCORE_LIMIT) scores.old.items }

@@ -48,7 +48,7 @@ impl Ahead {
         }
     }
 
-    // Reads the first literal of a clause.
+    /// Reads the first literal of a clause.
     #[inline(always)]
     fn read_clause(&mut self, arena: &Arena, reference: ClauseRef)
         requires { IsLive arena.now reference }

@@ -21,7 +21,7 @@ pub enum Event {
     Conflict(ClauseRef),
 }
 
-// Reads what the walk for the literal at a place of the trail will begin with, if there is one.
+/// Reads what the walk for the literal at a place of the trail will begin with, if there is one.
 #[inline(always)]
 fn read_next(nodes: &mut Nodes, lists: &NodeLists, arena: &Arena, trail: &Trail, place: usize)
     requires live { (r : ℕ) → IsAttached nodes.old.attached.items r → IsLive arena.now r }
@@ -36,7 +36,7 @@ fn read_next(nodes: &mut Nodes, lists: &NodeLists, arena: &Arena, trail: &Trail,
     }
 }
 
-// Looks at each literal of the trail that was not looked at.
+/// Looks at each literal of the trail that was not looked at.
 pub(crate) fn propagate(
     looked: &mut Vec<usize>,
     nodes: &mut Nodes,

@@ -7,7 +7,7 @@ ghost use Rattle.watch_lists.specs.Detaching.{AreLinked, HaveAttached, HaveLists
 use crate::lists::NodeLists;
 use crate::nodes::Nodes;
 
-// Lists the nodes of one clause, where it is attached.
+/// Lists the nodes of one clause, where it is attached.
 fn link_one(nodes: &Nodes, lists: &mut NodeLists, place: u32)
     requires room { place < length nodes.now.attached.items }
     requires small { 2 * place + 1 < 2 ^ 32 }
@@ -27,7 +27,7 @@ fn link_one(nodes: &Nodes, lists: &mut NodeLists, place: u32)
     lists.link(2 * place + 1, second.code());
 }
 
-// Lists the nodes of attached clauses, where the lists are empty.
+/// Lists the nodes of attached clauses, where the lists are empty.
 pub(crate) fn link_all(nodes: &Nodes, lists: &mut NodeLists)
     requires pairs { length lists.old.held ≡ 2 * length nodes.now.attached.items }
     requires few { length lists.old.held < 2 ^ 32 }

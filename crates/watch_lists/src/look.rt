@@ -20,7 +20,7 @@ pub(crate) enum ClauseFinding {
     Falsified,
 }
 
-// Whether the literal is not false and not `other`.
+/// Whether the literal is not false and not `other`.
 #[inline(always)]
 fn is_free(trail: &Trail, lit: Lit, other: Lit) -> bool
     requires { lit.variable ≤ trail.now.variables }
@@ -36,7 +36,7 @@ fn is_free(trail: &Trail, lit: Lit, other: Lit) -> bool
     }
 }
 
-// The place of a literal that is not false and not `other`.
+/// The place of a literal that is not false and not `other`.
 #[inline(always)]
 fn find(lits: &[Lit], trail: &Trail, other: Lit) -> Option<usize>
     requires { All (λ l. (1 ≤ l.variable) × (l.variable ≤ trail.now.variables)) lits.now }
@@ -50,7 +50,7 @@ fn find(lits: &[Lit], trail: &Trail, other: Lit) -> Option<usize>
     None
 }
 
-// The place of a free literal, looked for from a place to the end and then from the first literal to that place.
+/// The place of a free literal, looked for from a place to the end and then from the first literal to that place.
 fn find_around(lits: &[Lit], trail: &Trail, other: Lit, start: usize) -> Option<usize>
     requires within { All (λ l. (1 ≤ l.variable) × (l.variable ≤ trail.now.variables)) lits.now }
     requires start { start ≤ length lits.now }
@@ -62,7 +62,7 @@ fn find_around(lits: &[Lit], trail: &Trail, other: Lit, start: usize) -> Option<
     }
 }
 
-// A literal of a long clause that is not false and not `other`; the search begins where the last one was found.
+/// A literal of a long clause that is not false and not `other`; the search begins where the last one was found.
 #[inline(never)]
 fn free_literal_of_long(
     lits: &[Lit],
@@ -81,7 +81,7 @@ fn free_literal_of_long(
     Some(lits[place])
 }
 
-// A literal of a clause that is not false and not `other`.
+/// A literal of a clause that is not false and not `other`.
 #[inline(always)]
 fn free_literal(
     lits: &[Lit],
@@ -101,7 +101,7 @@ fn free_literal(
     Some(lits[place])
 }
 
-// What a short clause is, whose literals are a false one, this third one and `other`, which is not true. The clause is not read.
+/// What a short clause is, whose literals are a false one, this third one and `other`, which is not true. The clause is not read.
 #[inline(always)]
 pub(crate) fn look_at_short(trail: &Trail, third: Lit, other: Lit) -> ClauseFinding
     requires third { third.variable ≤ trail.now.variables }
@@ -123,7 +123,7 @@ pub(crate) fn look_at_short(trail: &Trail, third: Lit, other: Lit) -> ClauseFind
     }
 }
 
-// What the clause is, where `other` is one of its literals and not true.
+/// What the clause is, where `other` is one of its literals and not true.
 #[inline(always)]
 pub(crate) fn look(
     arena: &Arena,

@@ -30,7 +30,7 @@ pub(crate) enum Visit {
     Conflict,
 }
 
-// The other node of the clause.
+/// The other node of the clause.
 #[inline(always)]
 fn partner_of(node: u32) -> u32
     ensures { result ≡ partner node }
@@ -38,7 +38,7 @@ fn partner_of(node: u32) -> u32
     if node % 2 == 0 { node + 1 } else { node - 1 }
 }
 
-// The literal that the other node of the clause watches.
+/// The literal that the other node of the clause watches.
 #[inline(always)]
 pub(crate) fn partner_literal(lists: &NodeLists, node: u32) -> Lit
     requires { partner node < length lists.now.held }
@@ -47,7 +47,7 @@ pub(crate) fn partner_literal(lists: &NodeLists, node: u32) -> Lit
     lists.watched(partner_of(node))
 }
 
-// The third literal of a short clause: what both sides keep.
+/// The third literal of a short clause: what both sides keep.
 #[inline(always)]
 pub(crate) fn third_of_short(lists: &NodeLists, node: u32) -> Option<Lit>
     requires node { node < length lists.now.held }
@@ -63,7 +63,7 @@ pub(crate) fn third_of_short(lists: &NodeLists, node: u32) -> Option<Lit>
     None
 }
 
-// Has a node watch another literal of its clause. In a short clause the one that it watched becomes the third.
+/// Has a node watch another literal of its clause. In a short clause the one that it watched becomes the third.
 #[inline(always)]
 pub(crate) fn rewatch(lists: &mut NodeLists, node: u32, literal: Lit)
     requires node { node < length lists.old.held }
@@ -84,7 +84,7 @@ pub(crate) fn rewatch(lists: &mut NodeLists, node: u32, literal: Lit)
     lists.watch(node, Side::new(literal, mine.third));
 }
 
-// Looks at the clause of a node whose literal is false, where the other literal that is watched is not true. A short clause is not read.
+/// Looks at the clause of a node whose literal is false, where the other literal that is watched is not true. A short clause is not read.
 #[inline(always)]
 fn look_at(
     nodes: &mut Nodes,
@@ -109,7 +109,7 @@ fn look_at(
     }
 }
 
-// Visits the clause of a node whose literal is false, where the other literal that is watched is not true.
+/// Visits the clause of a node whose literal is false, where the other literal that is watched is not true.
 #[inline(always)]
 pub(crate) fn visit_node(
     nodes: &mut Nodes,

@@ -8,7 +8,7 @@ use crate::lists::NodeLists;
 use crate::nodes::Nodes;
 use cx_base::{ClauseRef, Moved};
 
-// Moves the sides of one clause to its new reference. Where it has none, it is detached.
+/// Moves the sides of one clause to its new reference. Where it has none, it is detached.
 fn move_one(nodes: &mut Nodes, lists: &mut NodeLists, moved: &Moved, place: u32)
     requires lowered { AreLowered moved.now }
     requires room { place < length nodes.old.attached.items }
@@ -34,7 +34,7 @@ fn move_one(nodes: &mut Nodes, lists: &mut NodeLists, moved: &Moved, place: u32)
     }
 }
 
-// Moves the sides of each clause to its new reference.
+/// Moves the sides of each clause to its new reference.
 pub(crate) fn move_all(nodes: &mut Nodes, lists: &mut NodeLists, moved: &Moved)
     requires lowered { AreLowered moved.now }
     requires few { length lists.old.held < 2 ^ 32 }
