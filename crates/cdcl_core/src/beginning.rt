@@ -94,12 +94,12 @@ fn settle_tidying(
 pub(crate) fn start<P: ParityEngine, L: Sink<Item = LogEvent>>(
     log: &mut SearchLog<L>,
     filled: &mut Filled,
-    parities: ParityList,
+    parities: &ParityList,
     tidies: bool,
 ) -> Result<Option<P>, CoreFault>
     requires few { length log.old.formula.now.constraints ≤ 4294967295 }
-    requires given { HasGiven log.old.formula.now parities (told_in L.Sink log.old) }
-    requires engines { AreEngines log.old.formula.now parities }
+    requires given { HasGiven log.old.formula.now parities.now (told_in L.Sink log.old) }
+    requires engines { AreEngines log.old.formula.now parities.now }
     requires filled { IsFilled log.old.formula.now filled.old.state filled.old.units.items filled.old.empty }
     requires going { HasNotFailed L.Sink log.old }
     ensures begins { IfOk result (λ e. SearchBegins P.state tidies log.new.formula.now (told_in L.Sink log.new) filled.new.state e) }
@@ -115,6 +115,6 @@ pub(crate) fn start<P: ParityEngine, L: Sink<Item = LogEvent>>(
         return Ok(None);
     }
     settle_tidying(log.formula, &mut filled.state, tidies)?;
-    let engine = P::make(log.alloc, vars, &parities)?;
+    let engine = P::make(log.alloc, vars, parities)?;
     Ok(Some(engine))
 }

@@ -97,8 +97,12 @@ pub(crate) fn fail<P: ParityEngine, L: Sink<Item = LogEvent>>(
         below,
     } = failure;
     let Conflict { lits, id, rows } = conflict;
-    let mut rows = rows;
-    let left = trace(log, state, engine, &lits, &kept, below, &mut rows, marks)?;
+    // The lists go here, and not at each exit below.
+    let left = {
+        let lits = lits;
+        let mut rows = rows;
+        trace(log, state, engine, &lits, &kept, below, &mut rows, marks)?
+    };
     let clause = left.lits.as_slice();
     let hints = hints_of_lesson(log.alloc, &left.resolved, id)?;
     let failed = negated(log.alloc, clause)?;

@@ -84,7 +84,12 @@ fn fill_and_search<P: ParityEngine + Drop, L: Sink<Item = LogEvent>>(
     ensures { AnswersTo L.Sink effort.tidies effort.budget log.old result log.new }
 {
     fill(log.alloc, log.formula, filled)?;
-    match start::<P, L>(log, filled, parities, effort.tidies)? {
+    // The list goes before the search.
+    let engine = {
+        let parities = parities;
+        start::<P, L>(log, filled, &parities, effort.tidies)?
+    };
+    match engine {
         Some(mut engine) => search(log, &mut filled.state, &mut engine, effort.budget),
         None => Ok(SearchOutcome::Unsat {
             failed: LitList::from_vec(Vec::new(log.alloc)),

@@ -12,7 +12,7 @@ use Rattle.cdcl_core.proofs.beginning.start.Goals as goal
 
 pub refute-requires-clause-shown : goal.refute-requires-clause-shown
 refute-requires-clause-shown g c =
-    empty_is_refutable c.args.log.now.formula.now c.requires.few c.vars-vars.ensures.within c.args.parities c.requires.engines.few (g.L.Sink.items c.args.log.now.sink.now) c.requires.given c.args.filled.now.state c.args.filled.now.units.items c.in-Some.number
+    empty_is_refutable c.args.log.now.formula.now c.requires.few c.vars-vars.ensures.within c.args.parities.now c.requires.engines.few (g.L.Sink.items c.args.log.now.sink.now) c.requires.given c.args.filled.now.state c.args.filled.now.units.items c.in-Some.number
     (subst (IsFilled c.args.log.now.formula.now c.args.filled.now.state c.args.filled.now.units.items) c.in-Some.is c.requires.filled)
 
 pub refute-requires-clause-units : goal.refute-requires-clause-units
@@ -24,14 +24,14 @@ refute-requires-clause-id g c = empty_is_id c.args.log.now.formula.now c.require
 
 pub put_units-requires-clause-stands : goal.put_units-requires-clause-stands
 put_units-requires-clause-stands g c = (
-  c.args.parities,
-  subst (λ us. SearchStandsBut c.args.log.now.formula.now c.args.parities c.args.filled.now.state us (g.L.Sink.items c.args.log.now.sink.now)) (sym c.deref.ensures.value)
-      (filled_stands c.args.log.now.formula.now c.requires.few c.vars-vars.ensures.within c.args.parities c.requires.engines.few (g.L.Sink.items c.args.log.now.sink.now) c.requires.given c.args.filled.now.state c.args.filled.now.units.items
+  c.args.parities.now,
+  subst (λ us. SearchStandsBut c.args.log.now.formula.now c.args.parities.now c.args.filled.now.state us (g.L.Sink.items c.args.log.now.sink.now)) (sym c.deref.ensures.value)
+      (filled_stands c.args.log.now.formula.now c.requires.few c.vars-vars.ensures.within c.args.parities.now c.requires.engines.few (g.L.Sink.items c.args.log.now.sink.now) c.requires.given c.args.filled.now.state c.args.filled.now.units.items
       (subst (IsFilled c.args.log.now.formula.now c.args.filled.now.state c.args.filled.now.units.items) c.in_default.is c.requires.filled)),
 )
 
 pub make-requires-clause-within : goal.make-requires-clause-within
-make-requires-clause-within g c = subst (λ n. AllByRecursion (AreWithin n) c.args.parities) (sym c.vars-vars.ensures.variables) c.requires.engines.within
+make-requires-clause-within g c = subst (λ n. AllByRecursion (AreWithin n) c.args.parities.now) (sym c.vars-vars.ensures.variables) c.requires.engines.within
 
 pub settle_tidying-requires-clause-few : goal.settle_tidying-requires-clause-few
 settle_tidying-requires-clause-few g c = subst (λ (f : Problem). length f.constraints ≤ 4294967295) (sym c.in_ok-put_units.ensures.log.formula) c.requires.few
@@ -41,7 +41,7 @@ settle_tidying-requires-clause-plain g c = c.put_units.ensures.tidies ∙ c.requ
 
 pub settle_tidying-requires-clause-stands : goal.settle_tidying-requires-clause-stands
 settle_tidying-requires-clause-stands g c =
-    let engines = c.args.parities in
+    let engines = c.args.parities.now in
     let before : SearchStandsBut c.args.log.now.formula.now engines c.args.filled.now.state c.deref.result.now (g.L.Sink.items c.args.log.now.sink.now) =
     subst (λ us. SearchStandsBut c.args.log.now.formula.now engines c.args.filled.now.state us (g.L.Sink.items c.args.log.now.sink.now)) (sym c.deref.ensures.value)
     (filled_stands c.args.log.now.formula.now c.requires.few c.vars-vars.ensures.within engines c.requires.engines.few (g.L.Sink.items c.args.log.now.sink.now) c.requires.given c.args.filled.now.state c.args.filled.now.units.items
@@ -53,7 +53,7 @@ settle_tidying-requires-clause-stands g c =
 
 pub returns-clause-begins : goal.returns-clause-begins
 returns-clause-begins g c =
-    let engines = c.args.parities in
+    let engines = c.args.parities.now in
     let rows = c.in_ok-engine.ensures.0 in
     let same : c.put_units.new.log.formula.now ≡ c.args.log.now.formula.now = c.in_ok-put_units.ensures.log.formula in
     let made : g.P.ParityEngine.state c.in_ok-engine.engine ≡ fresh c.put_units.new.log.formula.now.variables engines rows =
@@ -76,7 +76,7 @@ returns-clause-begins g c =
 
 pub returns-then-not-branch-clause-begins : goal.returns-then-not-branch-clause-begins
 returns-then-not-branch-clause-begins g c =
-    let engines = c.args.parities in
+    let engines = c.args.parities.now in
     let told = g.L.Sink.items c.put_units.new.log.sink.now in
     let before : SearchStandsBut c.args.log.now.formula.now engines c.args.filled.now.state c.deref.result.now (g.L.Sink.items c.args.log.now.sink.now) =
     subst (λ us. SearchStandsBut c.args.log.now.formula.now engines c.args.filled.now.state us (g.L.Sink.items c.args.log.now.sink.now)) (sym c.deref.ensures.value)
