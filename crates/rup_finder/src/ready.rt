@@ -53,18 +53,18 @@ fn roomy(top: u32) -> Option<u32>
 }
 
 /// Lets the engine go, unless it is to stay.
-// Of any type: an engine has many parts, of which the proof is to know nothing here.
-pub fn keep_if<T: Drop>(stays: bool, engine: &mut Option<T>)
+pub fn keep_if(stays: bool, engine: &mut Option<Engine>)
     ensures stays { stays ≡ true → engine.new ≡ engine.old }
     ensures goes { stays ≡ false → engine.new ≡ None }
 {
     if !stays {
-        *engine = None;
+        // By a call, since in place each vector in it is a step of the proof.
+        drop(engine.take());
     }
 }
 
 /// An engine that was made comes in the place of what is there. Without memory nothing changes.
-// Of any type for the same reason.
+// Of any type: an engine has many parts, of which the proof is to know nothing here.
 fn put_made<T: Drop>(engine: &mut Option<T>, made: Result<T, AllocError>) -> Result<(), AllocError>
     ensures made { IfOk made (λ made. engine.new ≡ Some made) }
     ensures same { is_ok result ≡ is_ok made }
