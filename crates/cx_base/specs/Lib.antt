@@ -6,6 +6,7 @@ pub mod Assumptions
 pub mod Borrowed
 pub mod Heads
 pub mod Places
+pub mod ListSteps
 pub mod Assumed
 pub mod Items
 pub mod Drafts
