@@ -5,14 +5,14 @@ use std::alloc::AllocError;
 use std::marker::Model;
 
 /// What is under the first id comes under the second.
-#[derive(Clone, Copy, Debug, Drop)]
+#[derive(Clone, Copy, Drop)]
 pub struct IdMove {
     pub from: u64,
     pub to: u64,
 }
 
 /// Moves that are made at once: what is under the old ids is taken out, and then each content is put under its new id.
-#[derive(Debug, Drop)]
+#[derive(Drop)]
 pub struct MoveList {
     moves: Vec<IdMove>,
 }
