@@ -1,7 +1,7 @@
 -- One more step of a loop over a list, and its end.
-use Rattle.std.proofs.Common.{◌≡◌, refl, sym, ap, ◌∙◌, ℕ, zero, suc, ◌+◌, ◌<◌, ◌≤◌, ◌||◌, Bool, false, List, [], ◌∷◌, ◌++◌, map, length, get_or, take, drop}
+use Rattle.std.proofs.Common.{◌≡◌, refl, sym, ap, ◌∙◌, ℕ, zero, suc, ◌+◌, ◌<◌, ◌≤◌, ◌||◌, ◌&&◌, Bool, true, false, List, [], ◌∷◌, ◌++◌, map, length, get_or, take, drop}
 use Rattle.std.proofs.lemmas.List.{map-append, take_more, take_all, drop_more, drop_all}
-use Rattle.std.specs.List.{list_any}
+use Rattle.std.specs.List.{list_any, list_all}
 
 -- an item that fails the test changes no answer
 pub any_passed : {X : Type 0} (p : X → Bool) (xs : List X) (i : ℕ) (d : X) → i < length xs → p (get_or xs i d) ≡ false → list_any p (drop (i + 1) xs) ≡ list_any p (drop i xs)
@@ -9,6 +9,13 @@ any_passed p xs i d h fails = ap (λ b. b || list_any p (drop (i + 1) xs)) (sym 
 
 pub any_ended : {X : Type 0} (p : X → Bool) (xs : List X) (i : ℕ) → length xs ≤ i → false ≡ list_any p (drop i xs)
 any_ended p xs i h = ap (list_any p) (sym (drop_all i xs h))
+
+-- an item that passes the test changes no answer
+pub all_passed : {X : Type 0} (p : X → Bool) (xs : List X) (i : ℕ) (d : X) → i < length xs → p (get_or xs i d) ≡ true → list_all p (drop (i + 1) xs) ≡ list_all p (drop i xs)
+all_passed p xs i d h passes = ap (λ b. b && list_all p (drop (i + 1) xs)) (sym passes) ∙ ap (list_all p) (sym (drop_more xs i d h))
+
+pub all_ended : {X : Type 0} (p : X → Bool) (xs : List X) (i : ℕ) → length xs ≤ i → true ≡ list_all p (drop i xs)
+all_ended p xs i h = ap (list_all p) (sym (drop_all i xs h))
 
 -- one more result after those of the items so far
 pub map_more : {X Y : Type 0} (f : X → Y) (xs : List X) (i : ℕ) (d : X) → {ys : List Y} {y : Y} → ys ≡ map f (take i xs) → i < length xs → y ≡ f (get_or xs i d) → ys ++ y ∷ [] ≡ map f (take (i + 1) xs)

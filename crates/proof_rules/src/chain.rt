@@ -82,9 +82,12 @@ fn hinted_clause<'a>(live: &'a Live, hint: i64) -> Option<&'a [Lit]>
 fn are_named(live: &Live, hints: &[i64]) -> bool
     ensures { result ≡ all_named live.now.clauses hints.now }
 {
-    hints
-        .iter()
-        .all(|hint| hinted_clause(live, *hint).is_some())
+    for hint in hints {
+        if hinted_clause(live, *hint).is_none() {
+            return false;
+        }
+    }
+    true
 }
 
 /// This end, where each of the hints after it is not negative and names a live clause.

@@ -22,7 +22,12 @@ const WIDEST: usize = 12;
 fn is_outside(sum: &ParitySum, clause: &[Lit]) -> bool
     ensures { result ≡ is_outside sum.now.variables clause.now }
 {
-    clause.iter().any(|lit| !sum.has(lit.var()))
+    for lit in clause {
+        if !sum.has(lit.var()) {
+            return true;
+        }
+    }
+    false
 }
 
 /// Whether some named clause has a variable that is not left in the sum.

@@ -35,7 +35,12 @@ fn any_negative(hints: &[i64]) -> bool
 fn any_not_live(live: &Live, kind: Kind, hints: &[i64]) -> bool
     ensures { result ≡ list_any (λ z. not (is_live (chosen kind live.now) (nat_abs z))) hints.now }
 {
-    hints.iter().any(|hint| !live.has(kind, id_of(*hint)))
+    for hint in hints {
+        if !live.has(kind, id_of(*hint)) {
+            return true;
+        }
+    }
+    false
 }
 
 /// Judges the hints: none is negative, and each names a live constraint of the kind.
@@ -68,7 +73,12 @@ pub fn ids_of(room: Vec<u64>, hints: &[i64]) -> Result<Vec<u64>, AllocError>
 fn any_unknown(live: &Live, kind: Kind, ids: &[u64]) -> bool
     ensures { result ≡ list_any (λ n. not (is_live (chosen kind live.now) n)) ids.now }
 {
-    ids.iter().any(|id| !live.has(kind, *id))
+    for id in ids {
+        if !live.has(kind, *id) {
+            return true;
+        }
+    }
+    false
 }
 
 /// Judges ids that a log names: each is that of a live constraint of the kind.

@@ -16,7 +16,12 @@ use std::alloc::AllocError;
 fn has_opposite(set: &LiteralSet, lits: &[Lit]) -> bool
     ensures { result ≡ has_opposites set.now lits.now }
 {
-    lits.iter().any(|lit| set.contains(lit.negate()))
+    for lit in lits {
+        if set.contains(lit.negate()) {
+            return true;
+        }
+    }
+    false
 }
 
 /// The sum of the variables where all literals of the clause are false, if that gives each of them a value.
