@@ -1,8 +1,10 @@
 //! The steps of a log, judged and done one after another.
-ghost use Rattle.std.specs.Prelude.{◌≡◌, IfOk, OnOk};
+ghost use Rattle.std.specs.Prelude.{◌≡◌, IfOk, OnOk, false};
+ghost use Rattle.cx_base.specs.Assumptions.{clashes};
 ghost use Rattle.cx_base.specs.Endings.{finished};
 ghost use Rattle.cx_base.specs.declared.steps.LogStep.TheVariants as step;
 ghost use Rattle.cx_semantics.specs.Judging.{JudgedAs};
+ghost use Rattle.cx_semantics.specs.Tables.{no_tables};
 ghost use Rattle.cx_semantics.specs.LogRules.{log_rules, after_log_step, derives_ending_clause, log_calculus};
 ghost use Rattle.proof_rules.specs.Judges.{JudgesBy};
 ghost use Rattle.plain_tests.specs.Judged.{judgement_of};
@@ -209,17 +211,20 @@ pub(crate) fn ends_log(formula: &Formula, step: &LogStep) -> bool
     }
 }
 
-/// How a log of these steps is judged, with nothing after the last one.
-pub fn judge(alloc: Global, formula: &Formula, steps: &[LogStep]) -> Result<Judged, AllocError>
+/// How the steps are judged one after another, where the assumptions do not clash and nothing is live yet.
+fn judge_from(
+    alloc: Global,
+    formula: &Formula,
+    live: &mut Live,
+    steps: &[LogStep],
+) -> Result<Judged, AllocError>
+    requires no_clash { clashes formula.now.constraints ≡ false }
+    requires nothing { live.old ≡ no_tables }
     ensures { IfOk result (λ judged. JudgedAs (log_calculus formula.now) steps.now finished (judgement_of judged)) }
 {
-    if formula.clash().is_some() {
-        return Ok(Judged::Right(0));
-    }
-    let mut live = Live::beside(alloc, formula);
     for place in 0..steps.len() {
         let step = &steps[place];
-        match take_step(alloc, formula, &mut live, step) {
+        match take_step(alloc, formula, live, step) {
             Ok(()) => {}
             Err(JudgeRefusal::Wrong(cause)) => {
                 return Ok(Judged::Refused(place as u64 + 1, cause));
@@ -231,4 +236,15 @@ pub fn judge(alloc: Global, formula: &Formula, steps: &[LogStep]) -> Result<Judg
         }
     }
     Ok(Judged::Refused(steps.len() as u64 + 1, Cause::NoEmptyClause))
+}
+
+/// How a log of these steps is judged, with nothing after the last one.
+pub fn judge(alloc: Global, formula: &Formula, steps: &[LogStep]) -> Result<Judged, AllocError>
+    ensures { IfOk result (λ judged. JudgedAs (log_calculus formula.now) steps.now finished (judgement_of judged)) }
+{
+    if formula.clash().is_some() {
+        return Ok(Judged::Right(0));
+    }
+    let mut live = Live::beside(alloc, formula);
+    judge_from(alloc, formula, &mut live, steps)
 }
