@@ -1,11 +1,11 @@
 //! A desk without an end: each slot gives one byte for ever.
-ghost use Rattle.std.specs.Prelude.{◌≡◌, ◌<◌, ◌+◌, ◌-◌, ◌^◌, length, min, None, true, Ok, IsOk, string_bytes};
+ghost use Rattle.std.specs.Prelude.{◌≡◌, ◌<◌, ◌+◌, ◌-◌, ◌^◌, length, min, None, true, false, Ok, IsOk, string_bytes};
 ghost use Rattle.std.proofs.Math.ListN.{replicate};
 ghost use Rattle.cx_desk.specs.Outside.{asked_in, started_in};
-ghost use Rattle.cx_desk.specs.Calls.{Starts, Reads, Creates, Puts};
+ghost use Rattle.cx_desk.specs.Calls.{Starts, Reads, Creates, Puts, TakesUnwritten};
 ghost use Rattle.cx_desk.specs.Repeat.{endless, taken_of, byte_of, IsUntouched};
 
-use crate::{Desk, Failed, Port, Slot, Transcript};
+use crate::{Desk, Failed, Port, Slot, Transcript, Unwritten};
 
 /// What a slot was asked for.
 #[derive(Drop)]
@@ -124,5 +124,14 @@ impl Desk for RepeatDesk {
             Port::Message => self.message.note(piece),
         }
         Ok(piece.len())
+    }
+
+    /// Takes no text.
+    fn take_unwritten(&mut self, _port: Port, _text: &Unwritten) -> bool
+        ensures takes { TakesUnwritten _port _text.now.bytes (endless self.old) result (endless self.new) }
+        ensures never { result ≡ false }
+        ensures same { self.new ≡ self.old }
+    {
+        false
     }
 }

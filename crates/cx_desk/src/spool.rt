@@ -5,7 +5,7 @@ ghost use Rattle.cx_desk.specs.Calls.{Puts};
 ghost use Rattle.cx_desk.specs.Spooled.{waiting_in, spooled, Flushes, MakesRoom, IsWrittenBefore, Finishes, spooled_agrees};
 
 use crate::waiting::Waiting;
-use crate::{Desk, Failed, Port, Slot};
+use crate::{Desk, Failed, Port, Slot, Unwritten};
 use std::alloc::{AllocError, Global};
 
 /// A desk that writes the proof in pieces of 65,536 bytes, once the Proof port was given its file; before that, at once.
@@ -131,6 +131,16 @@ impl<D: Desk> Desk for Spool<D> {
             Port::Proof => self.put_proof(piece),
             Port::Answer => self.put_answer(piece),
             Port::Message => self.desk.put(Port::Message, piece),
+        }
+    }
+
+    /// The desk below may take a text of the proof where nothing waits that it would overtake.
+    fn take_unwritten(&mut self, port: Port, text: &Unwritten) -> bool {
+        match port {
+            Port::Proof => {
+                self.waiting.is_empty() && self.desk.take_unwritten(Port::Proof, text)
+            }
+            Port::Answer | Port::Message => false,
         }
     }
 }

@@ -3,6 +3,7 @@ ghost use Rattle.std.specs.Prelude.{◌≡◌, ◌++◌, ◌||◌, ℕ, Bool, fa
 ghost use Rattle.std.specs.Borrow.{ftrue};
 ghost use Rattle.cx_desk.specs.Gave.{is_none};
 
+use crate::Unwritten;
 use std::marker::{Model, PhantomData};
 
 /// The bytes of the pieces that were noted, and whether one of them was empty.
@@ -34,5 +35,10 @@ impl Transcript {
     /// Notes a piece after the others.
     pub fn note(&mut self, _piece: &[u8])
         ensures { Notes _piece.now self.old self.new }
+    {}
+
+    /// Notes a text that is not laid out, after the others.
+    pub fn note_unwritten(&mut self, _text: &Unwritten)
+        ensures { Notes _text.now.bytes self.old self.new }
     {}
 }

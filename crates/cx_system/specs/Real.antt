@@ -1,5 +1,5 @@
 -- What the desk over the system shows: what its reads gave and its writes took; it knows no files.
-use Rattle.std.specs.Prelude.{◌≡◌, [], None, false, option_map, string_bytes}
+use Rattle.std.specs.Prelude.{◌≡◌, Bool, [], None, false, is_some, option_map, string_bytes}
 use Rattle.cx_system.specs.declared.real_desk.RealDesk.{RealDesk}
 use Rattle.cx_desk.specs.Gave.{nothing}
 use Rattle.cx_desk.specs.Noted.{gave_of}
@@ -18,6 +18,10 @@ outside_of d = record {
   started = record { formula = d.formula.is_started; second = d.second.is_started };
   faults = record { reads = d.read_faults; writes = d.write_faults; messages = d.message_faults };
 }
+
+-- the Proof port was given a file
+abbrev pub has_file : RealDesk → Bool
+has_file d = is_some d.proof
 
 -- nothing was asked for, given or taken
 abbrev pub IsUntouched : Outside → Type 0

@@ -1,10 +1,11 @@
 //! The desk over the system.
-ghost use Rattle.std.specs.Prelude.{◌≡◌};
-ghost use Rattle.cx_system.specs.Real.{outside_of, IsUntouched};
+ghost use Rattle.std.specs.Prelude.{◌≡◌, true, false};
+ghost use Rattle.cx_desk.specs.Calls.{TakesUnwritten};
+ghost use Rattle.cx_system.specs.Real.{outside_of, has_file, IsUntouched};
 
 use crate::source::{RealSlot, id_of, read_at, start_at};
 use crate::streams::{count_fault, put_on};
-use cx_desk::{Desk, Failed, Port, Slot, Transcript};
+use cx_desk::{Desk, Failed, Port, Slot, Transcript, Unwritten};
 use std::fs::{File, OpenOptions};
 
 /// Files by name, standard input, standard output and standard error, with a count of the faults.
@@ -151,6 +152,20 @@ impl Desk for RealDesk {
                 }
                 Some(file) => put_on(file, &mut self.log, &mut self.write_faults, piece),
             },
+        }
+    }
+
+    /// Takes a text of the proof that would be dropped, as long as there is no file.
+    fn take_unwritten(&mut self, port: Port, text: &Unwritten) -> bool
+        ensures takes { TakesUnwritten port text.now.bytes (outside_of self.old) result (outside_of self.new) }
+        ensures no_file { result ≡ true → has_file self.old ≡ false }
+    {
+        match port {
+            Port::Proof if self.proof.is_none() => {
+                self.log.note_unwritten(text);
+                true
+            }
+            _ => false,
         }
     }
 }
