@@ -12,7 +12,8 @@ use cx_desk::{Desk, Failed, Port};
 use step_text::pieces::LineSheet;
 use step_text::{Sink, SinkFault};
 
-/// A sink that prints each event and each tidy line on the Proof port of a lent desk at once. It takes no memory.
+/// A sink that prints each event and each tidy line on the Proof port of a lent desk at once. It takes no memory. A line that would
+/// go nowhere is not laid out.
 ///
 /// It tells the events and the tidy lines of the port's whole lines. It counts one fault at most: it is not asked again after that.
 #[derive(Drop)]

@@ -1,6 +1,6 @@
 //! The printed form of logs.
 ghost use Rattle.std.specs.Prelude.{◌≡◌, [], ◌∷◌, ◌++◌, ◌<◌, ◌^◌, flat_map};
-ghost use Rattle.cx_desk.specs.Calls.{PutsAll};
+ghost use Rattle.cx_desk.specs.Calls.{PutsAll, TakesUnwritten};
 ghost use Rattle.cx_base.specs.declared.steps.LogEvent.TheVariants.{Step};
 ghost use Rattle.cx_base.specs.Lines.{tidy};
 ghost use Rattle.cx_texts.specs.Words.{conflict};
@@ -11,7 +11,7 @@ ghost use Rattle.step_text.specs.Spaced.{spaced};
 
 use crate::list_log::ListLog;
 use cx_base::{IdList, IdMove, IntList, LogEvent, LogStep};
-use cx_desk::{Desk, Failed, Port, put_all};
+use cx_desk::{Desk, Failed, Port, Unwritten, put_all};
 use step_text::pieces::{LineHead, LineSheet, LineTail, put_id, put_line, put_moves};
 
 /// The head of a line.
@@ -147,16 +147,33 @@ fn put_mark<D: Desk>(desk: &mut D, port: Port, k: u64) -> Result<(), Failed>
     put_id(desk, port, b"c conflict ", k, b"\n")
 }
 
-/// The line that says that the clauses are tidy at this restart.
+/// Offers the desk the line of a tidying before it is laid out, and says whether that took it.
+fn take_tidy<D: Desk>(desk: &mut D, port: Port, restart: u64) -> bool
+    ensures { TakesUnwritten port (printed_log_line (tidy restart)) (D.outside desk.old) result (D.outside desk.new) }
+{
+    desk.take_unwritten(port, &Unwritten::of(&restart))
+}
+
+/// The line that says that the clauses are tidy at this restart. It is laid out only where the desk did not take it before.
 pub(crate) fn put_tidy<D: Desk>(desk: &mut D, port: Port, restart: u64) -> Result<(), Failed>
     ensures number { restart < 2 ^ 64 }
     ensures line { PutsAll port (printed_log_line (tidy restart)) (D.outside desk.old) result (D.outside desk.new) }
 {
+    if take_tidy(desk, port, restart) {
+        return Ok(());
+    }
     put_id(desk, port, b"c tidy ", restart, b"\n")
 }
 
-/// The line of an event.
-pub(crate) fn put_event<D: Desk>(
+/// Offers the desk the line of an event before it is laid out, and says whether that took it.
+fn take_event<D: Desk>(desk: &mut D, port: Port, event: &LogEvent) -> bool
+    ensures { TakesUnwritten port (printed_line (spelling log_events event.now)) (D.outside desk.old) result (D.outside desk.new) }
+{
+    desk.take_unwritten(port, &Unwritten::of(event))
+}
+
+/// Lays the line of an event out.
+fn lay_out_event<D: Desk>(
     sheet: &mut LineSheet,
     desk: &mut D,
     port: Port,
@@ -169,6 +186,22 @@ pub(crate) fn put_event<D: Desk>(
         LogEvent::Step(step) => put_log_step(sheet, desk, port, step),
         LogEvent::Conflict(k) => put_mark(desk, port, *k),
     }
+}
+
+/// The line of an event. It is laid out only where the desk did not take it before.
+pub(crate) fn put_event<D: Desk>(
+    sheet: &mut LineSheet,
+    desk: &mut D,
+    port: Port,
+    event: &LogEvent,
+) -> Result<(), Failed>
+    requires { HasText event.now }
+    ensures { PutsAll port (printed_line (spelling log_events event.now)) (D.outside desk.old) result (D.outside desk.new) }
+{
+    if take_event(desk, port, event) {
+        return Ok(());
+    }
+    lay_out_event(sheet, desk, port, event)
 }
 
 /// Writes the lines of a log's events: steps as `put_log_step` does, the mark of conflict K as the
