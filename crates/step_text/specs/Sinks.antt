@@ -5,6 +5,10 @@ use Rattle.step_text.specs.declared.sink.SinkFault.TheVariants.{Memory, Failed}
 use Rattle.cx_base.specs.Counts.{Rose}
 use Rattle.cx_base.specs.Lines.{Line, item, tidy, items_of}
 
+-- what was told, and these after it
+abbrev pub with_all : {S : Type 0} → List S → Option (List S) → Option (List S)
+with_all more told = option_map (λ all. all ++ more) told
+
 -- what was told, and one more after it
 abbrev pub with_next : {S : Type 0} → S → Option (List S) → Option (List S)
 with_next next told = option_map (λ all. all ++ next ∷ []) told

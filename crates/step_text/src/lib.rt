@@ -16,6 +16,7 @@ mod source;
 mod spare;
 mod step_text;
 pub mod token_word;
+mod unmade;
 
 pub use grammar::StepGrammar;
 pub use sink::{Sink, SinkFault};
@@ -24,3 +25,4 @@ pub use slot_text::SlotText;
 pub use source::{StepSource, TextRefusal};
 pub use spare::SpareLists;
 pub use step_text::StepText;
+pub use unmade::Unmade;

@@ -1,8 +1,10 @@
 //! Where the steps of a proof and the events of a log go, one after another.
-ghost use Rattle.std.specs.Prelude.{◌≡◌, ℕ, Bool, false, List, Option, OnOk, OnErr};
+ghost use Rattle.std.specs.Prelude.{◌≡◌, ℕ, Bool, true, false, List, Option, OnOk, OnErr};
+ghost use Rattle.std.specs.List.{AllByRecursion};
 ghost use Rattle.cx_base.specs.Lines.{Line};
-ghost use Rattle.step_text.specs.Sinks.{with_next, with_tidy, AreItemsOf, GainsItems, SinkFaultsAs, HasFailedAs, OnFailed};
+ghost use Rattle.step_text.specs.Sinks.{with_all, with_next, with_tidy, AreItemsOf, GainsItems, SinkFaultsAs, HasFailedAs, OnFailed};
 
+use crate::Unmade;
 use cx_texts::Textual;
 use thiserror::Error;
 
@@ -56,6 +58,20 @@ pub trait Sink {
         ensures faults { SinkFaultsAs result (faults self.old) (faults self.new) }
         ensures failed { HasFailedAs result (has_failed self.old) (has_failed self.new) }
         ensures frame { keeps self.old self.new };
+
+    /// Takes these items as told, where it need not have them made for that, and says whether it did. Otherwise it was told nothing. A
+    /// sink that has failed is not asked again.
+    fn take_unmade<E: Unmade<Self::Item>>(&mut self, _unmade: &E) -> bool
+        requires texts { AllByRecursion Self.Item.has_text (E.items _unmade.now) }
+        requires going { has_failed self.old ≡ false }
+        ensures told { result ≡ true → items self.new ≡ with_all (E.items _unmade.now) (items self.old) }
+        ensures untold { result ≡ false → items self.new ≡ items self.old }
+        ensures faults { faults self.new ≡ faults self.old }
+        ensures failed { has_failed self.new ≡ has_failed self.old }
+        ensures frame { keeps self.old self.new }
+    {
+        false
+    }
 
     /// Takes the line that says that the clauses are tidy at this restart. A sink that has failed is not asked again.
     fn tidied(&mut self, restart: u64) -> Result<(), SinkFault>
