@@ -1,19 +1,20 @@
 -- What a port that was given lines of events tells.
-use Rattle.std.proofs.Common.{◌≡◌, sym, ap, ◌∙◌, ℕ, ◌+◌, ◌<◌, ◌≤◌, true, List, [], ◌∷◌, ◌++◌, flat_map, length, take, append_assoc, append-nil, length-append, arith, Some, option_map}
+use Rattle.std.proofs.Common.{◌≡◌, sym, ap, subst, ◌∙◌, ℕ, ◌+◌, ◌<◌, ◌≤◌, Bool, true, false, true≢false, List, [], ◌∷◌, ◌++◌, flat_map, length, take, append_assoc, append-nil, length-append, arith, Some, option_map}
 use Rattle.std.specs.List.{AllByRecursion}
 use Rattle.std.proofs.lemmas.Grind.{flat_map-append}
 use Rattle.std.proofs.lemmas.List.{take-append-le}
 use Rattle.cx_desk.specs.declared.desk.Port.TheVariants.{Proof}
 use Rattle.cx_desk.specs.Outside.{Bytes, Outside}
-use Rattle.cx_desk.specs.Calls.{gained}
+use Rattle.cx_desk.specs.Calls.{gained, TakesUnwritten}
 use Rattle.cx_base.specs.declared.steps.LogEvent.{LogEvent}
 use Rattle.cx_texts.specs.Printed.{printed_log, HasText}
 use Rattle.cx_texts.proofs.PrintedLogs.{line_text, no_feed_event}
 use Rattle.proof_text.specs.Told.{whole_lines, begun_line, is_none, is_whole}
 use Rattle.proof_text.proofs.ToldLaws.{no_feed_front, lines-append, begun-append, no_line, all_begun, one_line, line_ends, none_left}
 use Rattle.log_text.specs.LineLaws.{event_is_read}
-use Rattle.log_text.specs.Told.{event_line, events_read, told_events, events_told}
-use Rattle.step_text.specs.Sinks.{with_next}
+use Rattle.log_text.specs.Told.{event_line, events_read, told_events, events_told, Goes}
+use Rattle.log_text.specs.ToldEvents.{goes_itself}
+use Rattle.step_text.specs.Sinks.{with_all, with_next}
 use Rattle.step_text.proofs.Puts.{Fails}
 
 -- ---- events
@@ -72,3 +73,21 @@ torn_told old new s h (k, low, fault) = ap events_told fault.else_same ∙ gaine
 
 pub gained_log : (o : Outside) (events : List LogEvent) → is_whole o ≡ true → AllByRecursion HasText events → events_told (gained Proof (printed_log events) o) ≡ option_map (λ all. all ++ events) (events_told o)
 gained_log o events w h = ap Some (told_log o.written.proof events (none_left _ w) h)
+
+-- ---- lines that are not laid out
+module _ (o : Outside) (events : List LogEvent) (w : is_whole o ≡ true) (h : AllByRecursion HasText events) where
+  pub taken_whole : (taken : Bool) (now : Outside) → TakesUnwritten Proof (printed_log events) o taken now → is_whole now ≡ true
+  taken_whole true now is = ap is_whole is ∙ ap is_none (begun_log o.written.proof events (none_left _ w) h)
+  taken_whole false now is = ap is_whole is ∙ w
+
+  pub taken_told : (taken : Bool) (now : Outside) → TakesUnwritten Proof (printed_log events) o taken now → taken ≡ true → events_told now ≡ with_all events (events_told o)
+  taken_told true now is e = ap events_told is ∙ gained_log o events w h
+  taken_told false now is e = absurd (true≢false (sym e))
+
+  pub taken_goes : (taken : Bool) (now : Outside) → TakesUnwritten Proof (printed_log events) o taken now → Goes false o false now
+  taken_goes true now is = record { events = events; texts = h; moved = is }
+  taken_goes false now is = subst (Goes false o false) (sym is) (goes_itself false o)
+
+pub untold_same : (o : Outside) (lines : Bytes) (taken : Bool) (now : Outside) → TakesUnwritten Proof lines o taken now → taken ≡ false → events_told now ≡ events_told o
+untold_same o lines true now is e = absurd (true≢false e)
+untold_same o lines false now is e = ap events_told is

@@ -8,9 +8,9 @@ ghost use Rattle.log_text.specs.Lines.{lines_told, TornTidyOn, GoesByLines};
 
 use crate::print::{put_event, put_tidy};
 use cx_base::LogEvent;
-use cx_desk::{Desk, Failed, Port};
+use cx_desk::{Desk, Failed, Port, Unwritten};
 use step_text::pieces::LineSheet;
-use step_text::{Sink, SinkFault};
+use step_text::{Sink, SinkFault, Unmade};
 
 /// A sink that prints each event and each tidy line on the Proof port of a lent desk at once. It takes no memory. A line that would
 /// go nowhere is not laid out.
@@ -87,6 +87,12 @@ impl<D: Desk> Sink for DeskLog<'_, D> {
             }
             Err(Failed) => Err(SinkFault::Failed),
         }
+    }
+
+    /// The port may take the lines of the events where these need not be laid out.
+    fn take_unmade<E: Unmade<LogEvent>>(&mut self, unmade: &E) -> bool {
+        self.desk
+            .take_unwritten(Port::Proof, &Unwritten::of(unmade))
     }
 
     /// Prints the line `c tidy R`. `Memory` is never answered.

@@ -1,9 +1,10 @@
 //! A log that is not kept.
-ghost use Rattle.std.specs.Prelude.{IsOk};
+ghost use Rattle.std.specs.Prelude.{◌≡◌, true, IsOk};
+ghost use Rattle.std.specs.List.{AllByRecursion};
 ghost use Rattle.cx_texts.specs.Printed.{HasText};
 
 use cx_base::LogEvent;
-use step_text::{Sink, SinkFault};
+use step_text::{Sink, SinkFault, Unmade};
 
 /// A sink that forgets what it is given, and tells nothing. It takes no memory and never fails.
 #[derive(Clone, Copy, Drop)]
@@ -36,6 +37,14 @@ impl Sink for NoLog {
         ensures never_fails { IsOk result }
     {
         Ok(())
+    }
+
+    /// It tells nothing, so nothing needs to be made for it.
+    fn take_unmade<E: Unmade<LogEvent>>(&mut self, _unmade: &E) -> bool
+        requires texts { AllByRecursion HasText (E.items _unmade.now) }
+        ensures always { result ≡ true }
+    {
+        true
     }
 
     /// Forgets the tidy line.
