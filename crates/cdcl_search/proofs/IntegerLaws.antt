@@ -1,11 +1,17 @@
 -- The integers of literals.
-use Rattle.std.proofs.Common.{◌≡◌, ◌≢◌, ◌≤◌, ◌<◌, refl, ap, sym, ◌∙◌, subst, ℕ, ◌+◌, ℤ, pos, nat_abs, List, [], ◌∷◌, ◌++◌, length, take, get_or, map, add-one}
+use Rattle.std.proofs.Common.{◌≡◌, ◌≢◌, ◌≤◌, ◌<◌, refl, ap, sym, ◌∙◌, subst, ℕ, zero, suc, ◌+◌, Bool, true, false, ℤ, pos, nat_abs, List, [], ◌∷◌, ◌++◌, length, take, get_or, map, add-one, arith}
 use Rattle.std.proofs.Math.Seq.{take-suc}
 use Rattle.std.proofs.lemmas.List.{take_all}
 use Rattle.cx_base.specs.Literals.{Literal}
 use Rattle.cx_base.specs.Numbers.{AreStepIntegers}
 use Rattle.cx_base.specs.Integers.{integer_of, integers_of, literal, literals}
 use Rattle.cx_base.proofs.Elements.{all_push}
+
+-- a literal is that of its integer
+pub spelt : (n : ℕ) (b : Bool) → 1 ≤ n → literal (integer_of (record { variable = n; negative = b })) ≡ record { variable = n; negative = b }
+spelt zero b h = absurd (omega (arith, h))
+spelt (suc n) true h = refl
+spelt (suc n) false h = refl
 
 -- what a loop has made of the first literals
 pub record AreMade (done : List Literal) (made : List ℤ) : Type 0 where

@@ -1,5 +1,5 @@
 -- A log that is right so far: each prefix of it is.
-use Rattle.std.proofs.Common.{◌≡◌, refl, sym, ap, ◌∙◌, subst, ℕ, zero, suc, ◌+◌, ◌<◌, List, [], ◌∷◌, ◌++◌, length, take, drop, get_or, filter_map, Option, Some, None, arith, inl, inr, ◌⊎◌, is_some, true≢false, length-append, append_assoc, append-nil}
+use Rattle.std.proofs.Common.{◌≡◌, refl, sym, ap, ◌∙◌, subst, ℕ, zero, suc, ◌+◌, ◌<◌, Bool, true, false, List, [], ◌∷◌, ◌++◌, length, take, drop, get_or, filter_map, Option, Some, None, arith, inl, inr, ◌⊎◌, is_some, true≢false, length-append, append_assoc, append-nil}
 use Rattle.std.specs.Prelude.{Result, Ok, Err, OnOk}
 use Rattle.std.proofs.lemmas.List.{take-append-drop}
 use Rattle.std.proofs.Math.Seq.{take-suc}
@@ -23,10 +23,10 @@ use Rattle.conflict_learn.specs.Faults.{CountsAs, fault_in}
 use Rattle.step_text.specs.declared.sink.Sink as sink
 use Rattle.search_steps.specs.Recovering.{SettledWithRecovered}
 use Rattle.cdcl_search.specs.declared.logs.SearchLog.{SearchLog}
-use Rattle.cdcl_search.specs.Calls.{TellsIn, Tells}
+use Rattle.cdcl_search.specs.Calls.{TellsIn, Tells, TellsUnmade}
 use Rattle.cdcl_search.specs.Logs.{GoesOn, IsRightBehind}
-use Rattle.cdcl_search.specs.Tells.{TellsAll, FaultsAs, HasFailedBy, IsLeft, IsTellable, HaveLowIds, HasNoMark, IsTorn, as_events, with_events}
-use Rattle.cdcl_search.proofs.Events.{more_and_more}
+use Rattle.cdcl_search.specs.Tells.{TellsAll, FaultsAs, HasFailedBy, IsLeft, IsTellable, HaveLowIds, HasNoMark, IsTorn, as_events, with_events, AreTellable}
+use Rattle.cdcl_search.proofs.Events.{no_more, more_and_more}
 
 -- ---- prefixes
 runs_front : {S : Type 0} (c : Calculus S) (tables : Tables) (front more : List S) (last : Tables) → Runs c tables (front ++ more) last → (t : Tables) × Runs c tables front t
@@ -184,3 +184,15 @@ tells_by m old new events r tells right texts low unmarked formula name = record
   told = told_where (m.torn new.sink.now) events (m.items old.sink.now) r (m.items new.sink.now) tells.told;
   log = goes_on_by m old new events r tells.told tells.faults tells.failed tells.frame right texts low unmarked formula name;
 }
+
+-- steps that were not made: they are told, or none is
+pub tells_unmade : {L : Type 0} (m : sink.Ghosts L LogEvent) (old new : SearchLog L) (events : List LogEvent) (taken : Bool) → AreTellable events → IsRightBehind m old events
+    → (taken ≡ true → m.items new.sink.now ≡ with_events events (m.items old.sink.now)) → (taken ≡ false → m.items new.sink.now ≡ m.items old.sink.now) → m.faults new.sink.now ≡ m.faults old.sink.now
+    → m.has_failed new.sink.now ≡ m.has_failed old.sink.now → m.keeps old.sink.now new.sink.now → new.formula.now ≡ old.formula.now → new.sink.ghost_name ≡ old.sink.ghost_name → TellsUnmade m old events taken new
+tells_unmade m old new events true (steps, are) right told untold faults failed keeps formula name =
+    tells_by {T = Unit {0}} m old new events (Ok tt) (record { told = told refl; faults = faults; failed = failed; frame = keeps }) right
+    (subst (AllByRecursion HasText) are.are (tellable_have_texts steps are.texts)) (subst (AllByRecursion HasLowId) are.are (tellable_are_low steps are.texts))
+    (λ s. subst (AllByRecursion (λ e. mark_of e ≡ None)) are.are (steps_are_unmarked steps)) formula name
+tells_unmade m old new events false (steps, are) right told untold faults failed keeps formula name =
+    tells_by {T = Unit {0}} m old new [] (Ok tt) (record { told = untold refl ∙ sym (no_more (m.items old.sink.now)); faults = faults; failed = failed; frame = keeps })
+    (fronts_are_left old.formula.now (m.items old.sink.now) events 0 right) tt tt (λ s. tt) formula name

@@ -14,7 +14,7 @@ use Rattle.cx_semantics.specs.Chain.{has_literal}
 use Rattle.cx_base.specs.declared.steps.LogStep.TheVariants.{ClauseOfParity}
 use Rattle.cx_base.specs.declared.steps.LogEvent.{LogEvent}
 use Rattle.cx_base.specs.declared.steps.LogEvent.TheVariants.{Step}
-use Rattle.cx_base.specs.Integers.{integer_of, integers_of, literal, literals}
+use Rattle.cx_base.specs.Integers.{integers_of, literals}
 use Rattle.cx_semantics.specs.LogRules.{AreLive}
 use Rattle.cx_base.specs.Assumptions.{is_ending}
 use Rattle.cx_semantics.specs.Tables.{Table, get, named}
@@ -40,9 +40,14 @@ use Rattle.cx_semantics.proofs.Members.{has_at_head, has_behind}
 use Rattle.cx_semantics.proofs.Widths.{variable_in}
 use Rattle.cdcl_search.specs.declared.state.SearchState.{SearchState}
 use Rattle.cdcl_search.specs.Ties.{Ties, SearchStands, IsWatched, HasOnlyRowClauses, AreNumbered, AreRows, first_row_id, row_ids}
-use Rattle.cdcl_search.specs.Tells.{TellsAll, GivesUp, IsLeft, with_events}
+use Rattle.cdcl_search.specs.Tells.{IsLeft, IsId, AreTellable, with_events}
+use Rattle.cdcl_search.specs.Rows.{AreNextIds}
+use Rattle.cdcl_search.specs.declared.rows.RowIds.{RowIds}
 use Rattle.cdcl_search.specs.Explaining.{Explains}
 use Rattle.cdcl_search.proofs.Events.{no_more, more_and_more}
+use Rattle.cdcl_search.proofs.IntegerLaws.{spelt}
+use Rattle.cdcl_search.proofs.LowIds.{variables_are_few}
+use Rattle.cdcl_search.proofs.StepTexts.{literals_are_proper, row_is_tellable}
 use Rattle.cdcl_search.proofs.TableLaws.{put_same, put_other, drop_other, put_answers_below, clauses_stay, units_stay}
 
 -- ---- variables
@@ -118,11 +123,6 @@ module _ (formula : Problem) (c : SearchState) (e : State) (rows : List (List Li
   clause_within = within_by formula.variables r.clause (λ l h. form_within l.variable (in_form x.form r.clause x.one_of_each l h))
 
 -- ---- a row is told
-spelt : (n : ℕ) (b : Bool) → 1 ≤ n → literal (integer_of (record { variable = n; negative = b })) ≡ record { variable = n; negative = b }
-spelt zero b h = absurd (omega (arith, h))
-spelt (suc n) true h = refl
-spelt (suc n) false h = refl
-
 -- the integers of literals of the formula stand for them
 spells : (n : ℕ) (lits : List Literal) → AreWithin n lits → literals (integers_of lits) ≡ lits
 spells n [] w = refl
@@ -277,25 +277,38 @@ module _ (formula : Problem) (c : SearchState) (e : State) (rows : List (List Li
         (summed, summed_keeps formula theirs s k rs r.sources n zs reason_is ok, all_told_are (sum_events k rs r.sources n zs) s told_ a, sum_ties, f)
 
 -- ---- what a telling leaves
-rising_ids : (least few : ℕ) (ids : List ℕ) → 1 ≤ least → few ≤ 2000000000000000000 → AreRising least few ids → AllByRecursion Rattle.cdcl_search.specs.Tells.IsId ids
+rising_ids : (least few : ℕ) (ids : List ℕ) → 1 ≤ least → few ≤ 2000000000000000000 → AreRising least few ids → AllByRecursion IsId ids
 rising_ids least few [] low top r = tt
 rising_ids least few (i ∷ ids) low top r =
     let first = r.0 in
     let last = r.1 in
     ((omega (arith, low, first), omega (arith, top, last)), rising_ids (i + 1) few ids (omega arith) top r.2)
 
-pub sources_are_ids : (constraints parities : ℕ) (ids : List ℕ) → parities ≤ constraints → constraints ≤ 4294967295 → AreRising 1 parities ids → AllByRecursion Rattle.cdcl_search.specs.Tells.IsId ids
+pub sources_are_ids : (constraints parities : ℕ) (ids : List ℕ) → parities ≤ constraints → constraints ≤ 4294967295 → AreRising 1 parities ids → AllByRecursion IsId ids
 sources_are_ids constraints parities ids few small r = rising_ids 1 parities ids (omega arith) (omega (arith, few, small)) r
 
 module _ (formula : Problem) (c : SearchState) (e : State) (rows : List (List Literal)) (old : Option (List LogEvent)) (st : SearchStands formula c e rows old) where
   pub left_now : IsLeft formula old
   left_now = is_left formula e.parities st.0 old st.1 st.3.log.served.served st.2
 
-  module _ (r : ReasonOf) (x : Explains e.parities c.trail r) (some : is_ending formula.constraints r.clause ≡ false) (room : length rows ≤ formula.variables)
-      (events : List LogEvent) (seen : List (List Literal)) (same : seen ≡ rows) (are_ : events ≡ row_events (length formula.constraints + 1) (integers_of r.parity) r.sources (first_row_id c.next + length seen) (integers_of r.clause)) where
-    are : events ≡ row_events (length formula.constraints + 1) (integers_of r.parity) r.sources (first_row_id c.next + length rows) (integers_of r.clause)
-    are = subst (λ xs. events ≡ row_events (length formula.constraints + 1) (integers_of r.parity) r.sources (first_row_id c.next + length xs) (integers_of r.clause)) same are_
+  pub sources_are : (r : ReasonOf) → Explains e.parities c.trail r → AllByRecursion IsId r.sources
+  sources_are r x = sources_are_ids (length formula.constraints) (length e.parities) r.sources st.3.engine.few st.3.ids.few x.numbers
 
-    pub stands_then : (new : Option (List LogEvent)) → new ≡ with_events events old → SearchStands formula c e (rows ++ r.clause ∷ []) new
+  module _ (r : ReasonOf) (x : Explains e.parities c.trail r) (some : is_ending formula.constraints r.clause ≡ false) (room : length rows ≤ formula.variables)
+      (seen : List (List Literal)) (same : seen ≡ rows) (ids : RowIds) (next : AreNextIds (length formula.constraints) c.next (length seen) ids) where
+    abbrev its : List LogEvent
+    its = row_events ids.sum (integers_of r.parity) r.sources ids.clause (integers_of r.clause)
+
+    are : its ≡ row_events (length formula.constraints + 1) (integers_of r.parity) r.sources (first_row_id c.next + length rows) (integers_of r.clause)
+    are = ap (λ k. row_events k (integers_of r.parity) r.sources ids.clause (integers_of r.clause)) next.sum
+        ∙ ap (λ n. row_events (length formula.constraints + 1) (integers_of r.parity) r.sources n (integers_of r.clause)) (next.clause ∙ ap (λ xs. first_row_id c.next + length xs) same)
+
+    pub are_tellable : AreTellable its
+    are_tellable =
+        let few = variables_are_few formula c e (first_row_id c.next) rows st.0 st.3 in
+        row_is_tellable ids.sum (integers_of r.parity) r.sources ids.clause (integers_of r.clause) next.proper.0 next.proper.1 (literals_are_proper formula.variables r.parity few (parity_within formula c e rows st.0 st.3 r x)) (sources_are r x)
+        (literals_are_proper formula.variables r.clause few (clause_within formula c e rows st.0 st.3 r x))
+
+    pub stands_then : (new : Option (List LogEvent)) → new ≡ with_events its old → SearchStands formula c e (rows ++ r.clause ∷ []) new
     stands_then new is = subst (SearchStands formula c e (rows ++ r.clause ∷ [])) (sym (is ∙ ap (λ es. with_events es old) are))
         (stands_still formula c e rows st.0 st.1 st.3 r x some room old st.2 st.4)

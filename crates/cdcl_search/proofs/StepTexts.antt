@@ -1,6 +1,9 @@
 -- A text can have each step that the search tells.
-use Rattle.std.proofs.Common.{◌≡◌, sym, subst, ◌≤◌, ◌<◌, ℕ, ℤ, pos, nat_abs, List, [], ◌∷◌, map, flat_map, arith}
+use Rattle.std.proofs.Common.{◌≡◌, refl, ap, sym, subst, ◌≤◌, ◌<◌, ℕ, ℤ, pos, nat_abs, List, [], ◌∷◌, map, flat_map, arith}
 use Rattle.std.specs.List.{AllByRecursion}
+use Rattle.cx_base.specs.Literals.{Literal}
+use Rattle.cx_base.specs.Problem.{AreWithin}
+use Rattle.cx_base.specs.Integers.{integer_of, integers_of}
 use Rattle.cx_base.specs.Numbers.{AreStepIntegers}
 use Rattle.cx_base.proofs.Elements.{all_append, integers_are_proper}
 use Rattle.cx_base.specs.declared.steps.LogStep.{LogStep}
@@ -10,7 +13,9 @@ use Rattle.cx_texts.specs.Grammar.{Field, spelled, spelled_list, IsProper}
 use Rattle.cx_texts.specs.LogText.{log_fields}
 use Rattle.cx_texts.specs.Printed.{HasText}
 use Rattle.cx_texts.specs.Words.{Word, number, IsWithin}
-use Rattle.cdcl_search.specs.Tells.{IsId, IsTellable}
+use Rattle.search_steps.specs.LogSteps.{row_events, sum_events}
+use Rattle.cdcl_search.specs.Tells.{IsId, IsTellable, AreTellable}
+use Rattle.cdcl_search.proofs.IntegerLaws.{spelt}
 
 abbrev AreWords : List Word → Type 0
 AreWords ws = AllByRecursion (IsWithin 9223372036854775807) ws
@@ -39,6 +44,15 @@ id_words (n ∷ ns) a = (below n a.0, id_words ns a.1)
 
 pub ids_within : (ns : List ℕ) → AllByRecursion IsId ns → AreWords (spelled_list (map pos ns))
 ids_within ns a = all_append (IsWithin 9223372036854775807) (map number (map pos ns)) (number (pos 0) ∷ []) (id_words ns a) (zero_within, tt)
+
+-- the integers of literals of a formula are those of steps
+pub literals_are_proper : (n : ℕ) (lits : List Literal) → n ≤ 268435455 → AreWithin n lits → AreStepIntegers (integers_of lits)
+literals_are_proper n [] few w = tt
+literals_are_proper n (l ∷ lits) few w =
+    let low = w.0.0 in
+    let high = w.0.1 in
+    let size : nat_abs (integer_of l) ≡ l.variable = ap (λ m. m.variable) (spelt l.variable l.negative low) in
+    ((λ z. absurd (let none : nat_abs (integer_of l) ≡ 0 = ap nat_abs z in omega (arith, size, none, low)), omega (arith, size, high, few)), literals_are_proper n lits few w.1)
 
 -- ---- steps
 fields_within : (fs : List Field) → AllByRecursion (λ f. AreWords (spelled f)) fs → AreWords (flat_map spelled fs)
@@ -100,3 +114,15 @@ bare_deletion_of_sum n i = (has_text (step.DeleteParity n []) (tt, (tt, (positiv
 
 pub deletion_of_sum_text : (n : ℕ) (zs : List ℤ) → IsId n → zs ≡ [] → IsTellable (step.DeleteParity n zs)
 deletion_of_sum_text n zs i none = subst (λ xs. IsTellable (step.DeleteParity n xs)) (sym none) (bare_deletion_of_sum n i)
+
+-- ---- the steps of a row
+sum_is_tellable : (k : ℕ) (rs : List ℤ) (ids : List ℕ) (n : ℕ) (zs : List ℤ) → IsId k → IsId n → AreStepIntegers rs → AllByRecursion IsId ids → AreStepIntegers zs → AreTellable (sum_events k rs ids n zs)
+sum_is_tellable k rs ids n zs i j a b d = (
+  step.Parity k rs ids ∷ step.ClauseOfParity n zs k ∷ step.DeleteParity k [] ∷ [],
+  record { are = refl; texts = (sum_text k rs ids i a b, (clause_of_sum_text n zs k j d i, (deletion_of_sum_text k [] i refl, tt))) },
+)
+
+pub row_is_tellable : (k : ℕ) (rs : List ℤ) (ids : List ℕ) (n : ℕ) (zs : List ℤ) → IsId k → IsId n → AreStepIntegers rs → AllByRecursion IsId ids → AreStepIntegers zs → AreTellable (row_events k rs ids n zs)
+row_is_tellable k rs [] n zs i j a b d = sum_is_tellable k rs [] n zs i j a b d
+row_is_tellable k rs (source ∷ []) n zs i j a b d = (step.ClauseOfParity n zs source ∷ [], record { are = refl; texts = (clause_of_sum_text n zs source j d b.0, tt) })
+row_is_tellable k rs (one ∷ two ∷ ids) n zs i j a b d = sum_is_tellable k rs (one ∷ two ∷ ids) n zs i j a b d

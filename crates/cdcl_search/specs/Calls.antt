@@ -1,5 +1,5 @@
 -- What calls take of a search, and what they leave of it.
-use Rattle.std.specs.Prelude.{◌≡◌, ◌≢◌, ◌≤◌, List, [], length, Option, Result, OnOk}
+use Rattle.std.specs.Prelude.{◌≡◌, ◌≢◌, ◌≤◌, Bool, if◌then◌else◌, List, [], length, Option, Result, Ok, OnOk}
 use Rattle.search_policy.specs.Assuming.{KeepsAssumptions}
 use Rattle.search_policy.specs.declared.assumptions.Assumptions.{Assumptions}
 use Rattle.cx_base.specs.Literals.{Literal}
@@ -32,6 +32,10 @@ pub record TellsIn {L T : Type 0} (m : sink.Ghosts L LogEvent) (events : List Lo
 pub record Tells {L T : Type 0} (m : sink.Ghosts L LogEvent) (old : SearchLog L) (events : List LogEvent) (result : Result T CoreFault) (new : SearchLog L) : Type 0 where
   pub told : OnOk result (AreToldNow m old events new)
   pub log : GoesOn m old (fault_in result) new
+
+-- These events are told, though they were not made; or none is.
+abbrev pub TellsUnmade : {L : Type 0} → sink.Ghosts L LogEvent → SearchLog L → List LogEvent → Bool → SearchLog L → Type 0
+TellsUnmade m old events taken new = Tells {T = Unit {0}} m old (if taken then events else []) (Ok tt) new
 
 -- ---- calls that tell the log
 -- the search fits the code, no row is broken, and the sink of the log has not failed

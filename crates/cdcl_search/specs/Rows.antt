@@ -2,19 +2,15 @@
 use Rattle.std.specs.Prelude.{◌≡◌, ℕ, ◌+◌, ◌≤◌, ℤ, List, [], ◌∷◌, length}
 use Rattle.cx_base.specs.Literals.{Literal}
 use Rattle.cx_base.specs.declared.constraint.Constraint.{Constraint}
-use Rattle.cx_base.specs.Integers.{integers_of}
 use Rattle.cx_base.specs.declared.steps.LogEvent.{LogEvent}
 use Rattle.cx_base.specs.declared.steps.LogEvent.TheVariants.{Step}
 use Rattle.cx_base.specs.declared.steps.LogStep.{LogStep}
 use Rattle.cx_base.specs.declared.steps.LogStep.TheVariants.{Parity, ClauseOfParity}
-use Rattle.xor_reason.specs.declared.reason.ReasonOf.{ReasonOf}
-use Rattle.search_steps.specs.LogSteps.{row_events}
-use Rattle.cdcl_search.specs.Tells.{IsId, AreIdsFrom, AreStepsOf}
+use Rattle.cdcl_search.specs.Tells.{IsId, AreIdsFrom}
 use Rattle.cdcl_search.specs.Ties.{first_row_id}
 use Rattle.cdcl_search.specs.declared.rows.RowIds.{RowIds}
 use Rattle.cdcl_search.specs.declared.rows.RowSteps.{RowSteps}
 use Rattle.cdcl_search.specs.declared.rows.RowSteps.TheVariants.{Alone, Summed}
-use Rattle.cdcl_search.specs.declared.rows.Prepared.{Prepared}
 
 -- so few constraints, and ids so low, that the next row after these has ids
 pub record AreFew (constraints : List Constraint) (next : ℕ) (rows : List (List Literal)) : Type 0 where
@@ -35,9 +31,3 @@ sum_and_clause_events k parity sources n clause = Step (Parity k parity sources)
 abbrev pub steps_in : RowSteps → List LogStep
 steps_in (Alone step) = step ∷ []
 steps_in (Summed steps) = steps.items
-
--- the steps of the next row and its clause, twice
-pub record IsPrepared (constraints next rows : ℕ) (reason : ReasonOf) (p : Prepared) : Type 0 where
-  pub row : AreStepsOf (row_events (constraints + 1) (integers_of reason.parity) reason.sources (first_row_id next + rows) (integers_of reason.clause)) (steps_in p.steps)
-  pub clause : p.clause ≡ reason.clause
-  pub copy : p.copy ≡ reason.clause

@@ -97,6 +97,10 @@ pub record AreStepsOf (events : List LogEvent) (steps : List LogStep) : Type 0 w
   pub are : as_events steps ≡ events
   pub texts : AllByRecursion IsTellable steps
 
+-- these events are steps, each of which the search may tell
+abbrev pub AreTellable : List LogEvent → Type 0
+AreTellable events = (steps : List LogStep) × AreStepsOf events steps
+
 -- where the events are told, each has a low id
 abbrev pub HaveLowIds : Option (List LogEvent) → Type 0
 HaveLowIds None = Unit {0}

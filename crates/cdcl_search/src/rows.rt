@@ -1,28 +1,27 @@
 //! Rows as the log tells them.
-ghost use Rattle.std.specs.Prelude.{◌≡◌, ◌≢◌, ℕ, ◌≤◌, [], ◌∷◌, ◌++◌, length, None, IfOk, IfSome, OnOk, OnErr, IsFalse};
+ghost use Rattle.std.specs.Prelude.{◌≡◌, ◌≢◌, ◌≤◌, [], ◌∷◌, ◌++◌, length, None, IfOk, IfSome, OnOk, OnErr, IsFalse};
 ghost use Rattle.std.specs.List.{AllByRecursion};
 ghost use Rattle.cx_base.specs.Assumptions.{is_ending};
 ghost use Rattle.cx_base.specs.Integers.{integers_of};
 ghost use Rattle.cx_base.specs.declared.steps.LogStep.TheVariants.{ClauseOfParity};
 ghost use Rattle.search_steps.specs.LogSteps.{row_events};
-ghost use Rattle.parity_engine.specs.Written.{AreRising};
 ghost use Rattle.cdcl_search.specs.Calls.{StandsOn, Tells};
 ghost use Rattle.cdcl_search.specs.Explaining.{Explains};
 ghost use Rattle.cdcl_search.specs.Logs.{HasNotFailed, IsRightBehind, Stands};
-ghost use Rattle.cdcl_search.specs.Rows.{AreFew, AreNextIds, IsPrepared, steps_in, sum_and_clause_events};
-ghost use Rattle.cdcl_search.specs.Tells.{as_events, AreStepsOf, IsId, IsStep, IsTellable};
+ghost use Rattle.cdcl_search.specs.Rows.{AreFew, AreNextIds, steps_in, sum_and_clause_events};
+ghost use Rattle.cdcl_search.specs.Tells.{as_events, AreStepsOf, AreTellable, IsId, IsStep, IsTellable};
 ghost use Rattle.cdcl_search.specs.Ties.{first_row_id};
 
 use crate::integers::integers;
 use crate::logs::SearchLog;
 use crate::state::SearchState;
 use crate::steps::{clause_of_sum, deletion_of_sum, sum};
-use crate::telling::{tell_step, tell_steps};
+use crate::telling::{tell_step, tell_steps, tell_unmade};
 use conflict_learn::CoreFault;
 use cx_base::{Formula, IdList, Lit, LitList, LogEvent, LogStep};
 use parity_engine::ParityEngine;
 use std::alloc::{AllocError, Global};
-use step_text::Sink;
+use step_text::{Sink, Unmade};
 use xor_reason::ReasonOf;
 
 /// The first id of the clauses of rows that are told for a clause that stays, which gets this next id.
@@ -133,8 +132,24 @@ fn row_steps(
     }
 }
 
-/// Tells the steps of a row, which leave the log right.
-fn tell_row<L: Sink<Item = LogEvent>>(
+/// The steps of a row, which are not made.
+#[derive(Clone, Copy, Drop)]
+struct UnmadeRow<'a> {
+    ids: RowIds,
+    parity: &'a LitList,
+    sources: &'a IdList,
+    clause: &'a LitList,
+}
+
+impl Unmade<LogEvent> for UnmadeRow<'_> {
+    ghost use Rattle.cx_base.specs.Integers.{integers_of};
+    ghost use Rattle.search_steps.specs.LogSteps.{row_events};
+
+    ghost items = { λ r. row_events r.ids.sum (integers_of r.parity.now) r.sources.now r.ids.clause (integers_of r.clause.now) };
+}
+
+/// Tells steps that were made.
+fn tell_made<L: Sink<Item = LogEvent>>(
     log: &mut SearchLog<L>,
     steps: RowSteps,
 ) -> Result<(), CoreFault>
@@ -147,6 +162,34 @@ fn tell_row<L: Sink<Item = LogEvent>>(
         RowSteps::Alone(step) => tell_step(log, step),
         RowSteps::Summed(steps) => tell_steps(log, steps),
     }
+}
+
+/// Tells the steps of a row, which leave the log right. They are made only where the log does not take them unmade.
+fn tell_row<L: Sink<Item = LogEvent>>(
+    log: &mut SearchLog<L>,
+    ids: RowIds,
+    parity: &LitList,
+    sources: IdList,
+    clause: &LitList,
+) -> Result<(), CoreFault>
+    requires proper { IsId ids.sum × IsId ids.clause }
+    requires sources { AllByRecursion IsId sources }
+    requires steps { AreTellable (row_events ids.sum (integers_of parity.now) sources ids.clause (integers_of clause.now)) }
+    requires going { HasNotFailed L.Sink log.old }
+    requires right { IsRightBehind L.Sink log.old (row_events ids.sum (integers_of parity.now) sources ids.clause (integers_of clause.now)) }
+    ensures { Tells L.Sink log.old (row_events ids.sum (integers_of parity.now) sources ids.clause (integers_of clause.now)) result log.new }
+{
+    let row = UnmadeRow {
+        ids,
+        parity,
+        sources: &sources,
+        clause,
+    };
+    if tell_unmade(log, &row) {
+        return Ok(());
+    }
+    let steps = row_steps(log.alloc, ids, parity, sources, clause)?;
+    tell_made(log, steps)
 }
 
 /// A copy of these literals.
@@ -164,42 +207,6 @@ fn copy_over(list: LitList, lits: &[Lit]) -> Result<LitList, AllocError>
     copy.clear();
     copy.extend_from_slice(lits)?;
     Ok(LitList::from_vec(copy))
-}
-
-/// What the telling of a row needs. It is made before anything is told.
-#[derive(Drop)]
-struct Prepared {
-    steps: RowSteps,
-    clause: LitList,
-    copy: LitList,
-}
-
-/// Makes ready for the telling of the next row.
-fn prepare(
-    alloc: Global,
-    formula: &Formula,
-    next: u64,
-    rows: &[LitList],
-    reason: ReasonOf,
-) -> Result<Prepared, AllocError>
-    requires next { IsId next }
-    requires few { AreFew formula.now.constraints next rows.now }
-    requires sources { (parities : ℕ) × (parities ≤ length formula.now.constraints) × AreRising 1 parities reason.sources }
-    ensures { IfOk result (IsPrepared (length formula.now.constraints) next (length rows.now) reason) }
-{
-    let ids = next_ids(formula, next, rows);
-    let ReasonOf {
-        parity,
-        sources,
-        clause,
-    } = reason;
-    let steps = row_steps(alloc, ids, &parity, sources, &clause)?;
-    let copy = copy_over(parity, clause.as_slice())?;
-    Ok(Prepared {
-        steps,
-        clause,
-        copy,
-    })
 }
 
 /// Tells the clause of a row, which does not end the log, and adds it to those that were told.
@@ -222,8 +229,14 @@ pub fn tell_reason<P: ParityEngine, L: Sink<Item = LogEvent>>(
     ensures rows { OnOk result (rows.new.items ≡ rows.old.items ++ reason.clause ∷ []) }
     ensures stands_on { StandsOn P.ParityEngine L.Sink log.old log.new state.now engine.now (rows.old.items ++ reason.clause ∷ []) result }
 {
-    let prepared = prepare(log.alloc, log.formula, state.next, rows, reason)?;
-    tell_row(log, prepared.steps)?;
-    rows.push(prepared.copy)?;
-    Ok(prepared.clause)
+    let ids = next_ids(log.formula, state.next, rows);
+    let ReasonOf {
+        parity,
+        sources,
+        clause,
+    } = reason;
+    tell_row(log, ids, &parity, sources, &clause)?;
+    let copy = copy_over(parity, clause.as_slice())?;
+    rows.push(copy)?;
+    Ok(clause)
 }

@@ -3,15 +3,15 @@ ghost use Rattle.std.specs.Prelude.{◌≡◌, false, [], ◌∷◌};
 ghost use Rattle.std.specs.List.{AllByRecursion};
 ghost use Rattle.cx_base.specs.declared.steps.LogEvent.TheVariants.{Step, Conflict};
 ghost use Rattle.search_steps.specs.Recovering.{SettledWithRecovered};
-ghost use Rattle.cdcl_search.specs.Calls.{TellsIn, Tells};
+ghost use Rattle.cdcl_search.specs.Calls.{TellsIn, Tells, TellsUnmade};
 ghost use Rattle.cdcl_search.specs.Logs.{HasNotFailed, IsRightBehind};
 ghost use Rattle.cx_texts.specs.Printed.{HasText};
-ghost use Rattle.cdcl_search.specs.Tells.{as_events, fault_as, IsTellable};
+ghost use Rattle.cdcl_search.specs.Tells.{as_events, fault_as, AreTellable, IsTellable};
 
 use crate::logs::SearchLog;
 use conflict_learn::CoreFault;
 use cx_base::{LogEvent, LogStep};
-use step_text::{Sink, SinkFault};
+use step_text::{Sink, SinkFault, Unmade};
 
 /// The search's word for a sink's fault.
 pub fn fault_of(fault: SinkFault) -> CoreFault
@@ -103,6 +103,19 @@ pub fn tell_step<L: Sink<Item = LogEvent>>(
     ensures { Tells L.Sink log.old (Step step ∷ []) result log.new }
 {
     tell(log.sink, LogEvent::Step(step))
+}
+
+/// Tells steps that are not made, where the sink takes them so, and says whether it did. They leave the log right.
+pub fn tell_unmade<L: Sink<Item = LogEvent>, E: Unmade<LogEvent>>(
+    log: &mut SearchLog<L>,
+    unmade: &E,
+) -> bool
+    requires steps { AreTellable (E.items unmade.now) }
+    requires going { HasNotFailed L.Sink log.old }
+    requires right { IsRightBehind L.Sink log.old (E.items unmade.now) }
+    ensures { TellsUnmade L.Sink log.old (E.items unmade.now) result log.new }
+{
+    log.sink.take_unmade(unmade)
 }
 
 /// Tells these steps, which leave the log right.
