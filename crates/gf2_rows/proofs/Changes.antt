@@ -163,6 +163,29 @@ whole_summed pool heads row old head table words low from high lt at view same z
     let end : final ≡ set R row new = final_is ∙ ap (λ t. set t row new) between ∙ set-set R row mid new in
     subst (λ t. IsSummed row t final words) view (subst (λ t. IsSummed row R t words) (sym end) whole)
 
+-- all is added to a row that is laid out whole
+pub pool_summed : (capacity : ℕ) (pool new words : List ℕ) (heads : List TableHead) (table : List (List ℕ)) (row start low high : ℕ) → row < length heads → start_at heads row ≡ Some start
+    → rows_in pool heads ≡ table → length words ≡ length (words_at table row) → IsZeroOutside words low high → AddsPart pool (start + low) (take (high - low) (drop low words)) new
+    → AreRows capacity pool heads → IsSummed row table (rows_in new heads) words
+pool_summed capacity pool new words heads table row start low high lt starts view same zero adds rows =
+    let R : List (List ℕ) = rows_in pool heads in
+    let its : List ℕ = take (width_at heads row) (drop start new) in
+    let in_rows : row < length R = omega (arith, length-rows pool heads) in
+    let long : length words ≡ length (words_at R row) = same ∙ ap (λ t. length (words_at t row)) (sym view) in
+    let end : rows_in new heads ≡ set R row its = part_changed capacity pool new words heads row start low high lt starts long zero.order zero.within adds rows in
+    let added : AddsWithin (words_at R row) words low high its = part_sum capacity pool new words heads row start low high lt starts long zero.order zero.within adds rows in
+    let whole : IsSummed row R (set R row its) words = row_summed R row words its low high in_rows long zero added in
+    subst (λ t. IsSummed row t (rows_in new heads) words) view (subst (λ t. IsSummed row R t words) (sym end) whole)
+
+-- the words of such a row are in the pool
+pub pool_room : (capacity : ℕ) (pool words : List ℕ) (heads : List TableHead) (table : List (List ℕ)) (row start : ℕ) → row < length heads → start_at heads row ≡ Some start
+    → rows_in pool heads ≡ table → length words ≡ length (words_at table row) → AreRows capacity pool heads → start + length words ≤ length pool
+pool_room capacity pool words heads table row start lt starts view same rows =
+    let room = rows.within row start starts in
+    let long : length words ≡ width_at heads row =
+    same ∙ ap (λ t. length (words_at t row)) (sym view) ∙ ap length (whole_words pool heads row start lt starts) ∙ length-part pool (width_at heads row) start room in
+    omega arith
+
 -- ---- a row is laid out whole, and then changed
 -- the table is as it was
 pub same_table : (capacity : ℕ) (pool : List ℕ) (heads : List TableHead) (row : ℕ) (old head : TableHead) (table laid : List (List ℕ)) → row < length heads → old ≡ get_or heads row old

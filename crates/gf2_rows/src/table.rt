@@ -128,6 +128,22 @@ impl WordTable {
         ensures changed { IsChangedAt row self.old self.new }
         ensures sum { bits_of (words_at self.new row) ≡ zip2 differ (bits_of (words_at self.old row)) (bits_of words.now) }
     {
+        // Most rows are whole, and what is added to one is short enough to be part of its caller.
+        match self.heads[row].start {
+            Some(start) => add_part(&mut self.pool, start + low, &words[low..high]),
+            None => self.add_to_few(row, words, low, high),
+        }
+    }
+
+    /// Adds such words to a row that may have to be laid out whole.
+    #[inline(never)]
+    fn add_to_few(&mut self, row: usize, words: &[u64], low: usize, high: usize)
+        requires row_in { row < length self.old }
+        requires same { length words.now ≡ length (words_at self.old row) }
+        requires span { IsZeroOutside words.now low high }
+        ensures changed { IsChangedAt row self.old self.new }
+        ensures sum { bits_of (words_at self.new row) ≡ zip2 differ (bits_of (words_at self.old row)) (bits_of words.now) }
+    {
         let head = &mut self.heads[row];
         let from = head.add_words(words, low, high);
         if from >= high {
