@@ -1,5 +1,5 @@
 -- Words taken several at a time.
-use Rattle.std.proofs.Common.{◌≡◌, ℕ, ◌+◌, ◌-◌, ◌*◌, ◌/◌, ◌%◌, ◌^◌, ◌<◌, ◌≤◌, zero, suc, Bool, true, false, not, ◌&&◌, List, [], ◌∷◌, map, length, get_or, refl, sym, ap, ◌∙◌, subst, count_by, Fits, w64, arith, Option, inl, inr}
+use Rattle.std.proofs.Common.{◌≡◌, ℕ, ◌+◌, ◌-◌, ◌*◌, ◌/◌, ◌%◌, ◌^◌, ◌<◌, ◌≤◌, zero, suc, Bool, true, false, not, ◌&&◌, List, [], ◌∷◌, map, length, get_or, set, refl, sym, ap, ◌∙◌, subst, count_by, Fits, w64, arith, Option, inl, inr}
 use Rattle.std.specs.Int.{bit_not}
 use Rattle.std.specs.Int.RustNames.{count_ones, bit_xor, bit_or}
 use Rattle.std.specs.Prelude.{bit_and}
@@ -11,14 +11,14 @@ use Rattle.std.proofs.Math.Seq.{drop-cons}
 use Rattle.std.proofs.lemmas.Nat.{le_or_l, le_or_r, ones-le}
 use Rattle.std.proofs.lemmas.Nat.Bits.{bit_at-zero}
 use Rattle.std.proofs.lemmas.Bool.{cases_lt}
-use Rattle.std.proofs.lemmas.List.{get_or-map, length-map}
+use Rattle.std.proofs.lemmas.List.{get_or-map, get_or-set_other, get_or-set_same, length-map, length-set}
 use Rattle.std.proofs.lemmas.Simd.{length-zip2, length-chunk, get_or-zip2, get_or-chunk, get_or-put_chunk_below, get_or-put_chunk_at, get_or-put_chunk_above}
 use Rattle.cx_base.specs.Literals.{differ}
 use Rattle.cx_base.specs.Parity.{odd_sum}
-use Rattle.gf2_rows.specs.Bits.{word_bit, bit_of, is_outside, is_skipped}
+use Rattle.gf2_rows.specs.Bits.{word_bit, bit_of, bits_of, is_outside, is_skipped}
 use Rattle.cx_base.proofs.Differences.{differ_assoc}
 use Rattle.cx_base.proofs.ParityLaws.{differ_false, differ_swap}
-use Rattle.gf2_rows.proofs.Words.{IsAddedBelow, parity_of, parity_of-differ, products_upto, products_word, ones_more, word_bit-rest}
+use Rattle.gf2_rows.proofs.Words.{IsAddedBelow, parity_of, parity_of-differ, products_upto, products_word, ones_more, sum_of_rows, word_bit-rest}
 
 -- the words of a load, one at a time
 chunk-cons : (xs : List ℕ) (i n : ℕ) → i < length xs → chunk i (suc n) xs ≡ get_or xs i 0 ∷ chunk (i + 1) n xs
@@ -49,6 +49,21 @@ added_block old other new at n same alike room before =
           ],
       λ k ge. get_or-put_chunk_above at new (zip2 bit_xor xs ys) k 0 (omega arith) ∙ before.1 k (omega arith),
     )
+
+-- the last word added after the others
+pub added_last : (old other new : List ℕ) (last n : ℕ) → n ≡ last → length old ≡ last + 1 → length new ≡ length old → length old ≡ length other → IsAddedBelow old other new n
+    → bits_of (set new last (bit_xor (get_or new last 0) (get_or other last 0))) ≡ zip2 differ (bits_of old) (bits_of other)
+added_last old other new last n here long same alike before =
+    let v : ℕ = bit_xor (get_or new last 0) (get_or other last 0) in
+    sum_of_rows (set new last v) old other (length-set new last v ∙ same) alike
+    (λ k lt.
+    elim (cases_lt k last) [
+      | inl low ↦ get_or-set_other new last k v 0 (λ e. omega arith) ∙ before.0 k (omega arith)
+      | inr high ↦
+          let at : last ≡ k = omega arith in
+          subst (λ m. get_or (set new last v) m 0 ≡ bit_xor (get_or old m 0) (get_or other m 0)) at
+          (get_or-set_same new last v 0 (omega arith) ∙ ap (λ x. bit_xor x (get_or other last 0)) (before.1 last (omega arith)))
+    ])
 
 -- ---- products
 pub parity-lanes : (xs ys : List ℕ) → length xs ≡ length ys → odd_sum (map parity_of (zip2 bit_xor xs ys)) ≡ differ (odd_sum (map parity_of xs)) (odd_sum (map parity_of ys))

@@ -15,11 +15,28 @@ pub fn add_into(row: &mut [u64], other: &[u64])
     requires { length row.old ≡ length other.now }
     ensures { bits_of row.new ≡ zip2 differ (bits_of row.old) (bits_of other.now) }
 {
-    // Where there is no whole block, the plain loop does it all, and is short enough to be part of its caller.
+    // Where there is no whole block, pairs of words do it all, and are short enough to be part of its caller.
     if row.len() < 8 {
-        plain::add_into(row, other);
+        add_in_pairs(row, other);
     } else {
         add_in_blocks(row, other);
+    }
+}
+
+/// Adds two words at a time.
+#[inline(always)]
+fn add_in_pairs(row: &mut [u64], other: &[u64])
+    requires { length row.old ≡ length other.now }
+    ensures { bits_of row.new ≡ zip2 differ (bits_of row.old) (bits_of other.now) }
+{
+    for pair in 0..row.len() / 2 {
+        let at = 2 * pair;
+        let sum = u64x2::from_slice(&row[at..]) ^ u64x2::from_slice(&other[at..]);
+        sum.copy_to_slice(&mut row[at..]);
+    }
+    if row.len() % 2 == 1 {
+        let last = row.len() - 1;
+        row[last] ^= other[last];
     }
 }
 
