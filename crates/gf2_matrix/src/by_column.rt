@@ -83,6 +83,7 @@ fn choose(chosen: &mut [u64], set: &WordRow<'_>, place: u64)
 }
 
 /// Turns the chosen rows over in the set of each column that the bits have, of which the first has bit `start`.
+#[inline(never)]
 fn turn_sets(sets: &mut WordTable, chosen: &[u64], bits: &WordRow<'_>, start: u64)
     requires few { length bits.now < 4294967296 }
     requires within { start ≤ 64 * length bits.now }

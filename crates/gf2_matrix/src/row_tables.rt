@@ -63,6 +63,7 @@ impl Rows {
     }
 
     /// Their number.
+    #[inline(always)]
     pub(crate) fn len(&self) -> usize
         ensures { result ≡ length self.now }
     {
@@ -70,6 +71,7 @@ impl Rows {
     }
 
     /// A look at a row.
+    #[inline(always)]
     pub(crate) fn row(&self, row: usize) -> PackedRow<'_>
         requires { row < length self.now }
         ensures { (d : PackedRow) → result ≡ slice_index_or self.now row d }
@@ -113,6 +115,7 @@ impl Rows {
     }
 
     /// Adds a copy of a row, whose words are zero outside the spans, to a row.
+    #[inline(always)]
     pub(crate) fn add(
         &mut self,
         row: usize,
