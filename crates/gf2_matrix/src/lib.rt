@@ -26,4 +26,4 @@ mod view;
 pub use column_set::next_in_set;
 pub use make::clear_words;
 pub use matrix::Matrix;
-pub use view::{RowView, place_of};
+pub use view::{RowView, has_bit, place_of};
