@@ -1,8 +1,9 @@
 //! Rows over the two-element field, packed 64 positions to a word.
 //!
 //! Position `k` of a row is bit `k % 64` of word `k / 64`. The kernels go over blocks of eight words at a
-//! time, and over the words after the last whole block one by one. The module [`plain`] has them as plain
-//! loops under the same contracts. A [`WordTable`] has many rows, and keeps those of few words by these alone.
+//! time, and over the words after the last whole block one by one; a sum of less than a block goes by two. The
+//! module [`plain`] has them as plain loops under the same contracts. A [`WordTable`] has many rows, and keeps
+//! those of few words by these alone.
 #![tactic(auto)]
 
 mod few;
