@@ -1,4 +1,5 @@
 pub mod Literals
+pub mod MendLaws
 pub mod ChainsOfTwo
 pub mod RunLaws
 pub mod TableLooks
