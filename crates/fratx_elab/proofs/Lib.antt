@@ -1,5 +1,6 @@
 mod TieLaws
 mod NameLaws
+mod Settling
 mod OwnLaws
 mod Transfers
 mod Numbers
