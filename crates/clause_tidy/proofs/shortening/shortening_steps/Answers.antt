@@ -1,4 +1,4 @@
-use Rattle.std.proofs.Common.{sym, subst}
+use Rattle.std.proofs.Common.{◌∙◌, [], ◌∷◌, sym, subst}
 use Rattle.std.specs.List.{AllByRecursion}
 use Rattle.std.proofs.lemmas.Result.{IfOk-weaker}
 use Rattle.clause_tidy.specs.Telling.{IsTellable}
@@ -7,12 +7,7 @@ use Rattle.clause_tidy.proofs.shortening.shortening_steps.Goals as goal
 pub returns-in-Ok-clause-steps : goal.returns-in-Ok-clause-steps
 returns-in-Ok-clause-steps c =
     IfOk-weaker c.four.result _ _
-    (λ all is.
-    let strengthened = c.in_ok-strengthened.ensures.is in
-    let old_goes = c.deletion-old_goes.ensures.is in
-    let copied = c.in-Ok.ensures.copied.is in
-    let spare_goes = c.deletion-spare_goes.ensures.is in
-    cc) c.four.ensures
+    (λ all is. is ∙ (λ i. c.in_ok-strengthened.ensures.is i ∷ c.deletion-old_goes.ensures.is i ∷ c.in-Ok.ensures.copied.is i ∷ c.deletion-spare_goes.ensures.is i ∷ [])) c.four.ensures
 
 pub returns-in-Ok-clause-texts : goal.returns-in-Ok-clause-texts
 returns-in-Ok-clause-texts c =
