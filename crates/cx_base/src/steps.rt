@@ -44,6 +44,8 @@ fn list_and_ids(list: &IntList, ids: &IdList) -> Result<(IntList, IdList), Alloc
     }
 }
 
+// Steps are copied by hand, and without `?` where a copy is held: derived, each exit drops what was copied so far, in steps of
+// the proof.
 impl Clone for ProofStep {
     ghost use Rattle.std.specs.Prelude.{◌≡◌};
 
