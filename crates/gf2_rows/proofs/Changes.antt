@@ -7,10 +7,10 @@ use Rattle.cx_base.specs.Literals.{differ}
 use Rattle.gf2_rows.specs.declared.head.TableHead.{TableHead}
 use Rattle.gf2_rows.specs.Bits.{bits_of}
 use Rattle.gf2_rows.specs.Few.{AddsWithin, AddsPart}
-use Rattle.gf2_rows.specs.Heads.{words_from, row_in, rows_in, blank, start_at, width_at, AreRows}
+use Rattle.gf2_rows.specs.Heads.{words_from, row_in, rows_in, blank, start_at, width_at, AreRows, AreWide, AreKept}
 use Rattle.gf2_rows.specs.Tables.{words_at, IsChangedAt, IsZeroOutside}
 use Rattle.gf2_rows.proofs.Adding.{adds_in_two, adds_all}
-use Rattle.gf2_rows.proofs.Laying.{changed_by_set, words_set, length-rows, row_at, length-row, length-part, get_or-part, element, rows-set, head_changed, row_changed}
+use Rattle.gf2_rows.proofs.Laying.{changed_by_set, words_set, length-rows, row_at, length-row, length-part, get_or-part, element, rows-set, head_changed, head_wide, row_changed}
 use Rattle.gf2_rows.proofs.Parts.{whole_words, part-set, part_added}
 
 -- ---- a head changes
@@ -21,6 +21,9 @@ module _ (capacity : ℕ) (pool : List ℕ) (heads : List TableHead) (row : ℕ)
 
   pub head_rows : AreRows capacity pool (set heads row head)
   head_rows = head_changed heads row head lt (starts ∙ sym (ap (λ h. h.start) same)) (widths ∙ sym (ap (λ h. length (h.few)) same)) capacity pool rows
+
+  pub head_kept : AreWide heads → AreKept capacity pool (set heads row head)
+  head_kept wide = record { rows = head_rows; wide = head_wide heads row head lt (starts ∙ sym (ap (λ h. h.start) same)) (widths ∙ sym (ap (λ h. length (h.few)) same)) wide }
 
   pub old_words : words_at (rows_in pool heads) row ≡ row_in pool old
   old_words = row_at pool heads row blank lt ∙ ap (row_in pool) same

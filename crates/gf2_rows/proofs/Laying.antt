@@ -6,8 +6,9 @@ use Rattle.std.proofs.lemmas.List.Sums.{sum_by-set, sum_by_push}
 use Rattle.std.proofs.Math.ListN.{get_or-append, get_or-eq_default}
 use Rattle.std.proofs.Math.Seq.{drop-append_seam, take-length}
 use Rattle.std.proofs.lemmas.Bool.{cases_eq, cases_lt}
+use Rattle.gf2_rows.specs.declared.few.TheConstants.{FEW}
 use Rattle.gf2_rows.specs.declared.head.TableHead.{TableHead}
-use Rattle.gf2_rows.specs.Heads.{words_from, row_in, rows_in, room_in, room_for, need_of, blank, start_at, width_at, AreRows}
+use Rattle.gf2_rows.specs.Heads.{words_from, row_in, rows_in, room_in, room_for, need_of, blank, start_at, width_at, AreRows, AreWide, IsLaidOut}
 use Rattle.gf2_rows.specs.Tables.{words_at, IsChangedAt}
 
 -- ---- tables
@@ -76,6 +77,9 @@ module _ (heads : List TableHead) (row : ℕ) (head : TableHead) (lt : row < len
   room_by xs ys None e = e
   room_by xs ys (Some s) e = refl
 
+  pub head_wide : AreWide heads → AreWide (set heads row head)
+  head_wide wide r lt few = rw (width_kept r) (wide r (omega (arith, length-set heads row head)) (sym (start_kept r) ∙ few))
+
   pub head_changed : (capacity : ℕ) (pool : List ℕ) → AreRows capacity pool heads → AreRows capacity pool (set heads row head)
   head_changed capacity pool rows =
       let old : TableHead = get_or heads row blank in
@@ -143,6 +147,17 @@ module _ (capacity : ℕ) (pool : List ℕ) (heads : List TableHead) (row : ℕ)
                   ]
             ];
       }
+
+  pub laid_here : IsLaidOut row heads (set heads row head)
+  laid_here r none =
+      elim (cases_eq r row) [
+        | inl e ↦
+            let some : start_at (set heads row head) row ≡ Some (length pool) = ap (λ h. h.start) own_kept ∙ starts in
+            let none' : start_at (set heads row head) row ≡ None = subst (λ k. start_at (set heads row head) k ≡ None) e none in
+            let both : None ≡ Some (length pool) = sym none' ∙ some in
+            absurd (cc)
+        | inr ne ↦ (ne, others_kept r ne)
+      ]
 
   own_words : row_in (pool ++ head.few) head ≡ row_in pool (get_or heads row blank)
   own_words =
@@ -246,6 +261,42 @@ module _ (capacity : ℕ) (pool : List ℕ) (heads : List TableHead) (w : ℕ) (
     apart = λ q r s t ne e f. rw (pushed_width q s e, pushed_width r t f) (rows.apart q r s t ne (pushed_start q s e) (pushed_start r t f));
   }
 
+-- ---- rows that are not laid out whole
+pub laid_before : (heads : List TableHead) (row start : ℕ) → start_at heads row ≡ Some start → IsLaidOut row heads heads
+laid_before heads row start some r none = (
+  λ e.
+      let at : start_at heads row ≡ None = subst (λ k. start_at heads k ≡ None) e none in
+      let both : None ≡ Some start = sym at ∙ some in
+      absurd (cc),
+  refl,
+)
+
+pub wide_kept : (heads new : List TableHead) (row : ℕ) → length new ≡ length heads → IsLaidOut row heads new → AreWide heads → AreWide new
+wide_kept heads new row long laid wide r lt none =
+    let same = (laid r none).1 in
+    subst (λ (h : TableHead). FEW < length (h.few)) (sym same) (wide r (omega arith) (ap (λ h. h.start) (sym same) ∙ none))
+
+-- a row is appended, and laid out whole
+pub wide_pushed : (heads new : List TableHead) (w : ℕ) → length new ≡ length heads + 1 → IsLaidOut (length heads) (heads ++ zero_head w ∷ []) new → AreWide heads → AreWide new
+wide_pushed heads new w long laid wide r lt none =
+    let ne = (laid r none).0 in
+    let in_heads : r < length heads = omega arith in
+    let same : get_or new r blank ≡ get_or heads r blank = (laid r none).1 ∙ get_or-append heads (zero_head w ∷ []) blank r in_heads in
+    subst (λ (h : TableHead). FEW < length (h.few)) (sym same) (wide r in_heads (ap (λ h. h.start) (sym same) ∙ none))
+
+-- a wide row is appended
+pub wide_more : (heads : List TableHead) (w : ℕ) → FEW < w → AreWide heads → AreWide (heads ++ zero_head w ∷ [])
+wide_more heads w more wide r lt none =
+    elim (cases_lt r (length heads)) [
+      | inl in_heads ↦
+          let same : get_or (heads ++ zero_head w ∷ []) r blank ≡ get_or heads r blank = get_or-append heads (zero_head w ∷ []) blank r in_heads in
+          subst (λ (h : TableHead). FEW < length (h.few)) (sym same) (wide r in_heads (ap (λ h. h.start) (sym same) ∙ none))
+      | inr past ↦
+          let at : length heads ≡ r = omega (arith, length_push heads (zero_head w)) in
+          let same : get_or (heads ++ zero_head w ∷ []) r blank ≡ zero_head w = get_or_push heads (zero_head w) blank r at in
+          subst (λ (h : TableHead). FEW < length (h.few)) (sym same) (subst (λ n. FEW < n) (sym (length-replicate {A = ℕ} w 0)) more)
+    ]
+
 -- laid out whole, a row needs no more than before
 pub laid_need : (pool : List ℕ) (heads : List TableHead) (row : ℕ) (head : TableHead) → row < length heads → start_at heads row ≡ None → head.start ≡ Some (length pool) → head.few ≡ (get_or heads row blank).few
     → need_of (pool ++ head.few) (set heads row head) ≡ need_of pool heads
@@ -260,16 +311,17 @@ laid_need pool heads row head lt few starts words =
 -- a row is laid out whole: it begins at the end of the pool, which is followed by its words
 pub laid_out_rows : (capacity : ℕ) (pool new : List ℕ) (heads : List TableHead) (row : ℕ) (old head : TableHead) (place : ℕ) → row < length heads → old ≡ get_or heads row old
     → old.start ≡ None → head.start ≡ Some place → place ≡ length pool → head.few ≡ old.few → new ≡ pool ++ old.few → AreRows capacity pool heads
-    → AreRows capacity new (set heads row head) × (rows_in new (set heads row head) ≡ rows_in pool heads) × (need_of new (set heads row head) ≡ need_of pool heads)
+    → AreRows capacity new (set heads row head) × (rows_in new (set heads row head) ≡ rows_in pool heads) × (need_of new (set heads row head) ≡ need_of pool heads) × IsLaidOut row heads (set heads row head)
 laid_out_rows capacity pool new heads row old head place lt at few starts here words items rows =
     let same : get_or heads row blank ≡ old = element heads row blank old lt ∙ sym at in
     let no_start : start_at heads row ≡ None = ap (λ h. h.start) same ∙ few in
     let its_words : head.few ≡ (get_or heads row blank).few = words ∙ sym (ap (λ h. h.few) same) in
     let its_start : head.start ≡ Some (length pool) = starts ∙ ap Some here in
     let longer : pool ++ head.few ≡ new = ap (λ l. pool ++ l) words ∙ sym items in
-    let P : List ℕ → Type 0 = λ p. AreRows capacity p (set heads row head) × (rows_in p (set heads row head) ≡ rows_in pool heads) × (need_of p (set heads row head) ≡ need_of pool heads) in
+    let P : List ℕ → Type 0 = λ p. AreRows capacity p (set heads row head) × (rows_in p (set heads row head) ≡ rows_in pool heads) × (need_of p (set heads row head) ≡ need_of pool heads) × IsLaidOut row heads (set heads row head) in
     subst P longer (
       laid_whole capacity pool heads row head lt no_start its_start its_words rows,
       laid_same_rows capacity pool heads row head lt no_start its_start its_words rows,
       laid_need pool heads row head lt no_start its_start its_words,
+      laid_here capacity pool heads row head lt no_start its_start its_words rows,
     )

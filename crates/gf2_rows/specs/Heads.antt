@@ -1,5 +1,6 @@
 -- What a table keeps: heads, and a pool of words.
-use Rattle.std.specs.Prelude.{◌≡◌, ◌≢◌, ℕ, ◌+◌, ◌≤◌, List, [], length, map, take, drop, get_or, sum_by, Option, Some, None, ◌⊎◌}
+use Rattle.std.specs.Prelude.{◌≡◌, ◌≢◌, ℕ, ◌+◌, ◌<◌, ◌≤◌, List, [], length, map, take, drop, get_or, sum_by, Option, Some, None, ◌⊎◌}
+use Rattle.gf2_rows.specs.declared.few.TheConstants.{FEW}
 use Rattle.gf2_rows.specs.declared.head.TableHead.{TableHead}
 
 -- a row's words: those laid out whole from a place of the pool on, or the few
@@ -40,3 +41,16 @@ pub record AreRows (capacity : ℕ) (pool : List ℕ) (heads : List TableHead) :
   pub room : need_of pool heads ≤ capacity
   pub within : (r s : ℕ) → start_at heads r ≡ Some s → s + width_at heads r ≤ length pool
   pub apart : (q r s t : ℕ) → q ≢ r → start_at heads q ≡ Some s → start_at heads r ≡ Some t → (s + width_at heads q ≤ t) ⊎ (t + width_at heads r ≤ s)
+
+-- a row that is not laid out whole has many words
+abbrev pub AreWide : List TableHead → Type 0
+AreWide heads = (r : ℕ) → r < length heads → start_at heads r ≡ None → FEW < width_at heads r
+
+-- what a table keeps
+pub record AreKept (capacity : ℕ) (pool : List ℕ) (heads : List TableHead) : Type 0 where
+  pub rows : AreRows capacity pool heads
+  pub wide : AreWide heads
+
+-- the row is laid out whole, and each that is not is as it was
+abbrev pub IsLaidOut : ℕ → List TableHead → List TableHead → Type 0
+IsLaidOut row old new = (r : ℕ) → start_at new r ≡ None → (r ≢ row) × (get_or new r blank ≡ get_or old r blank)

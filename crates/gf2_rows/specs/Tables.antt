@@ -17,3 +17,7 @@ pub record IsZeroOutside (words : List ℕ) (low high : ℕ) : Type 0 where
   pub within : high ≤ length words
   pub before : (i : ℕ) → i < low → slice_index words i ≡ 0
   pub after : (i : ℕ) → high ≤ i → slice_index words i ≡ 0
+
+-- each word but that at the place is as it was
+abbrev pub AreOtherWords : ℕ → List ℕ → List ℕ → Type 0
+AreOtherWords place old new = (i : ℕ) → i ≢ place → slice_index new i ≡ slice_index old i

@@ -9,8 +9,8 @@ ghost use Rattle.gf2_rows.specs.Few.{FirstFrom, least_of, is_bit_in, AddsWithin}
 use crate::plain::{self, open_bits};
 use std::marker::Model;
 
-/// How many words are kept with their places at most.
-pub(crate) const FEW: usize = 16;
+/// How many words are kept with their places at most. A row that has no more is laid out whole.
+pub const FEW: usize = 16;
 
 /// Words that are zero but for a few, which are kept with their places.
 ///

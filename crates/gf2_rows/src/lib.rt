@@ -16,6 +16,7 @@ mod scan;
 mod table;
 mod word_row;
 
+pub use few::FEW;
 pub use lanes::{add_into, first_outside, ones, outside_near, parity_and};
 pub use position::{bit, flip, put};
 pub use scan::{next_one, next_outside};

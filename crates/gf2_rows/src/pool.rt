@@ -1,7 +1,7 @@
 //! The pool of the words of rows that are laid out whole.
 ghost use Rattle.std.specs.Prelude.{◌≡◌, ℕ, ◌+◌, ◌<◌, ◌≤◌, ◌^◌, [], ◌∷◌, ◌++◌, map, sum, replicate, length, slice_index, Some, IfOk, vec_capacity, vec_len, take, drop};
 ghost use Rattle.gf2_rows.specs.Few.{AddsPart};
-ghost use Rattle.gf2_rows.specs.Heads.{rows_in, start_at, need_of, AreRows};
+ghost use Rattle.gf2_rows.specs.Heads.{rows_in, start_at, need_of, AreKept, AreRows, IsLaidOut};
 
 use crate::few::{FEW, FewWords};
 use crate::head::TableHead;
@@ -59,7 +59,7 @@ pub(crate) fn whole_start(heads: &mut Vec<TableHead>, pool: &mut Vec<u64>, row: 
     requires rows { AreRows (vec_capacity pool.old) pool.old.items heads.old.items }
     ensures rows { AreRows (vec_capacity pool.new) pool.new.items heads.new.items }
     ensures same { rows_in pool.new.items heads.new.items ≡ rows_in pool.old.items heads.old.items }
-    ensures heads { (vec_len heads.new ≡ vec_len heads.old) × (vec_capacity heads.new ≡ vec_capacity heads.old) }
+    ensures heads { (vec_len heads.new ≡ vec_len heads.old) × (vec_capacity heads.new ≡ vec_capacity heads.old) × IsLaidOut row heads.old.items heads.new.items }
     ensures room { vec_capacity pool.new ≡ vec_capacity pool.old }
     ensures need { need_of pool.new.items heads.new.items ≡ need_of pool.old.items heads.old.items }
     ensures start { start_at heads.new.items row ≡ Some result }
@@ -74,10 +74,10 @@ pub(crate) fn whole_start(heads: &mut Vec<TableHead>, pool: &mut Vec<u64>, row: 
 /// Appends a zero row for which there is room. A row of few words is laid out whole at once.
 fn push_row(heads: &mut Vec<TableHead>, pool: &mut Vec<u64>, width: usize)
     requires few { width < 2 ^ 32 }
-    requires rows { AreRows (vec_capacity pool.old) pool.old.items heads.old.items }
+    requires rows { AreKept (vec_capacity pool.old) pool.old.items heads.old.items }
     requires heads { vec_len heads.old < vec_capacity heads.old }
     requires room { need_of pool.old.items heads.old.items + width ≤ vec_capacity pool.old }
-    ensures rows { AreRows (vec_capacity pool.new) pool.new.items heads.new.items }
+    ensures rows { AreKept (vec_capacity pool.new) pool.new.items heads.new.items }
     ensures pushed { rows_in pool.new.items heads.new.items ≡ rows_in pool.old.items heads.old.items ++ replicate width 0 ∷ [] }
     ensures heads { (vec_len heads.new ≡ vec_len heads.old + 1) × (vec_capacity heads.new ≡ vec_capacity heads.old) }
     ensures room { (vec_capacity pool.new ≡ vec_capacity pool.old) × (need_of pool.new.items heads.new.items ≡ need_of pool.old.items heads.old.items + width) }
@@ -98,7 +98,7 @@ pub(crate) fn lay_rows(widths: &[usize], heads: &mut Vec<TableHead>, pool: &mut 
     requires empty { (heads.old.items ≡ []) × (pool.old.items ≡ []) }
     requires heads { length widths.now ≤ vec_capacity heads.old }
     requires room { sum widths.now ≤ vec_capacity pool.old }
-    ensures rows { AreRows (vec_capacity pool.new) pool.new.items heads.new.items }
+    ensures rows { AreKept (vec_capacity pool.new) pool.new.items heads.new.items }
     ensures zeros { rows_in pool.new.items heads.new.items ≡ map (λ w. replicate w 0) widths.now }
 {
     for width in widths {

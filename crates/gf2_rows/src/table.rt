@@ -1,10 +1,11 @@
 //! Rows of words that are kept by their few words where they can be.
-ghost use Rattle.std.specs.Prelude.{◌≡◌, ℕ, ◌*◌, ◌<◌, ◌≤◌, ◌^◌, if◌then◌else◌, nat_eq, not, length, map, replicate, slice_index, slice_set, IfOk};
+ghost use Rattle.std.specs.Prelude.{◌≡◌, ℕ, ◌*◌, ◌/◌, ◌<◌, ◌≤◌, ◌^◌, if◌then◌else◌, nat_eq, not, length, map, replicate, slice_index, slice_set, IfOk, MatchOption};
 ghost use Rattle.std.specs.Int.RustNames.{bit_xor};
 ghost use Rattle.std.specs.Simd.Lanes.{zip2};
 ghost use Rattle.cx_base.specs.Literals.{differ};
 ghost use Rattle.gf2_rows.specs.Bits.{bits_of, bit_of};
-ghost use Rattle.gf2_rows.specs.Tables.{words_at, IsChangedAt, IsZeroOutside};
+ghost use Rattle.gf2_rows.specs.Tables.{words_at, AreOtherWords, IsChangedAt, IsZeroOutside};
+ghost use Rattle.gf2_rows.specs.declared.few.TheConstants.{FEW};
 
 use crate::head::TableHead;
 use crate::pool::{add_part, lay_rows, part, total_of, whole_start};
@@ -28,11 +29,11 @@ impl Model for WordTable {
 
     ghost Value = { List (List ℕ) };
 
-    ghost use Rattle.gf2_rows.specs.Heads.{rows_in, AreRows};
+    ghost use Rattle.gf2_rows.specs.Heads.{rows_in, AreKept};
 
     ghost view = { λ t. rows_in t.pool.items t.heads.items };
 
-    ghost invariant = { λ t. AreRows (vec_capacity t.pool) t.pool.items t.heads.items };
+    ghost invariant = { λ t. AreKept (vec_capacity t.pool) t.pool.items t.heads.items };
 }
 
 impl WordTable {
@@ -69,6 +70,19 @@ impl WordTable {
         }
     }
 
+    /// The words of a row that is laid out whole, as each is that has at most `FEW`.
+    #[inline(always)]
+    pub fn whole(&self, row: usize) -> Option<&[u64]>
+        requires { row < length self.now }
+        ensures { MatchOption result (FEW < length (words_at self.now row)) (λ words. words.now ≡ words_at self.now row) }
+    {
+        let head = &self.heads[row];
+        match head.start {
+            Some(start) => Some(part(&self.pool, start, head.few.len())),
+            None => None,
+        }
+    }
+
     /// Adds to one word of a row.
     #[inline(always)]
     fn add_word(&mut self, row: usize, place: usize, word: u64)
@@ -91,6 +105,7 @@ impl WordTable {
         requires bit_in { k < 64 * length (words_at self.old row) }
         ensures changed { IsChangedAt row self.old self.new }
         ensures bits { bits_of (words_at self.new row) ≡ slice_set (bits_of (words_at self.old row)) k (not (bit_of (words_at self.old row) k)) }
+        ensures others { AreOtherWords (k / 64) (words_at self.old row) (words_at self.new row) }
     {
         self.add_word(row, (k / 64) as usize, 1 << (k % 64));
     }
@@ -102,6 +117,7 @@ impl WordTable {
         requires bit_in { k < 64 * length (words_at self.old row) }
         ensures changed { IsChangedAt row self.old self.new }
         ensures bits { (j : ℕ) → bit_of (words_at self.new row) j ≡ (if nat_eq j k then value else bit_of (words_at self.old row) j) }
+        ensures others { AreOtherWords (k / 64) (words_at self.old row) (words_at self.new row) }
     {
         if self.row(row).bit(k) != value {
             self.flip(row, k);

@@ -19,7 +19,7 @@ add_part-requires c =
     let s = (goal.at.add_part-requires c).In-Some in
     let pool = c.self.inside.pool in
     let words = c.args.words.now in
-    let room = pool_room pool.cap pool.items words c.self.inside.heads.items c.args.self.now c.args.row c.in-Some.start (row_in s) (starts s) c.self.view_is c.requires.same c.self.invariant in
+    let room = pool_room pool.cap pool.items words c.self.inside.heads.items c.args.self.now c.args.row c.in-Some.start (row_in s) (starts s) c.self.view_is c.requires.same c.self.invariant.rows in
     let order = c.requires.span.order in
     let within = c.requires.span.within in
     let long = length-part words (c.args.high - c.args.low) c.args.low (omega arith) in
@@ -32,7 +32,7 @@ returns-in-Some-clause-changed c =
     let pool = c.self.inside.pool in
     let all =
     pool_summed pool.cap pool.items c.add_part.new.pool.items c.args.words.now c.self.inside.heads.items c.args.self.now c.args.row c.in-Some.start c.args.low c.args.high (row_in s) (starts s)
-    c.self.view_is c.requires.same c.requires.span c.add_part.ensures.part c.self.invariant in
+    c.self.view_is c.requires.same c.requires.span c.add_part.ensures.part c.self.invariant.rows in
     all.0
 
 pub returns-in-Some-clause-sum : goal.returns-in-Some-clause-sum
@@ -41,5 +41,5 @@ returns-in-Some-clause-sum c =
     let pool = c.self.inside.pool in
     let all =
     pool_summed pool.cap pool.items c.add_part.new.pool.items c.args.words.now c.self.inside.heads.items c.args.self.now c.args.row c.in-Some.start c.args.low c.args.high (row_in s) (starts s)
-    c.self.view_is c.requires.same c.requires.span c.add_part.ensures.part c.self.invariant in
+    c.self.view_is c.requires.same c.requires.span c.add_part.ensures.part c.self.invariant.rows in
     all.1

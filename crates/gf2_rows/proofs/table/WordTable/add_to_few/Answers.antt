@@ -1,7 +1,7 @@
 use Rattle.std.proofs.Common.{◌≡◌, ◌<◌, ◌-◌, ◌∙◌, sym, ap, arith, length, take, drop}
 use Rattle.gf2_rows.specs.Heads.{rows_in, width_at}
 use Rattle.gf2_rows.proofs.Laying.{length-rows, length-part}
-use Rattle.gf2_rows.proofs.Changes.{head_rows, head_width, few_summed, whole_summed, laid_room, part_changed, part_sum}
+use Rattle.gf2_rows.proofs.Changes.{head_rows, head_kept, head_width, few_summed, whole_summed, laid_room, part_changed, part_sum}
 use Rattle.gf2_rows.proofs.table.WordTable.add_to_few.Goals as goal
 
 pub add_words-from-requires-clause-same : goal.add_words-from-requires-clause-same
@@ -10,7 +10,7 @@ add_words-from-requires-clause-same c =
     let pool = c.self.inside.pool in
     let count : length c.args.self.now ≡ length heads = sym (ap length c.self.view_is) ∙ length-rows pool.items heads in
     let lt : c.args.row < length heads = let r = c.requires.row_in in omega arith in
-    c.requires.same ∙ head_width pool.cap pool.items heads c.args.row c.index_mut-head.result.now c.args.self.now lt c.index_mut-head.ensures.value c.self.invariant c.self.view_is
+    c.requires.same ∙ head_width pool.cap pool.items heads c.args.row c.index_mut-head.result.now c.args.self.now lt c.index_mut-head.ensures.value c.self.invariant.rows c.self.view_is
 
 pub invariant_of-self : goal.invariant_of-self
 invariant_of-self c =
@@ -18,7 +18,7 @@ invariant_of-self c =
     let pool = c.self.inside.pool in
     let count : length c.args.self.now ≡ length heads = sym (ap length c.self.view_is) ∙ length-rows pool.items heads in
     let lt : c.args.row < length heads = let r = c.requires.row_in in omega arith in
-    head_rows pool.cap pool.items heads c.args.row c.index_mut-head.result.now c.add_words-from.new.self lt c.index_mut-head.ensures.value c.add_words-from.ensures.start c.add_words-from.ensures.len c.self.invariant
+    head_kept pool.cap pool.items heads c.args.row c.index_mut-head.result.now c.add_words-from.new.self lt c.index_mut-head.ensures.value c.add_words-from.ensures.start c.add_words-from.ensures.len c.self.invariant.rows c.self.invariant.wide
 
 pub returns-then-from-high-clause-changed : goal.returns-then-from-high-clause-changed
 returns-then-from-high-clause-changed c =
@@ -46,7 +46,7 @@ whole_start-start-requires-clause-rows c =
     let pool = c.self.inside.pool in
     let count : length c.args.self.now ≡ length heads = sym (ap length c.self.view_is) ∙ length-rows pool.items heads in
     let lt : c.args.row < length heads = let r = c.requires.row_in in omega arith in
-    head_rows pool.cap pool.items heads c.args.row c.index_mut-head.result.now c.add_words-from.new.self lt c.index_mut-head.ensures.value c.add_words-from.ensures.start c.add_words-from.ensures.len c.self.invariant
+    head_rows pool.cap pool.items heads c.args.row c.index_mut-head.result.now c.add_words-from.new.self lt c.index_mut-head.ensures.value c.add_words-from.ensures.start c.add_words-from.ensures.len c.self.invariant.rows
 
 pub overflow_add-start : goal.overflow_add-start
 overflow_add-start c =
