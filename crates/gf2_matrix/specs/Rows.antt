@@ -1,31 +1,41 @@
 -- Rows whose words are kept in tables, and what changes one of them.
-use Rattle.std.specs.Prelude.{◌≡◌, ◌≢◌, ℕ, Bool, true, false, cond, nat_eq, List, map, length, slice_index_or}
+use Rattle.std.specs.Prelude.{◌≡◌, ◌≢◌, ℕ, ◌<◌, Bool, true, false, cond, nat_eq, List, map, length, slice_index_or, take}
 use Rattle.std.specs.List.{range_with_len}
 use Rattle.cx_base.specs.Literals.{differ}
 use Rattle.gf2_rows.specs.Bits.{bit_of}
 use Rattle.gf2_rows.specs.Tables.{words_at}
 use Rattle.gf2_matrix.specs.declared.packed.PackedRow.{PackedRow}
 use Rattle.gf2_matrix.specs.declared.row_tables.RowHead.{RowHead}
+use Rattle.gf2_matrix.specs.Stretches.{IsSplit, sources_in}
 
 abbrev pub no_head : RowHead
-no_head = record { part = 0; right = false }
+no_head = record { part = 0; split = 0; right = false }
 
--- the head of an empty row of the part
-abbrev pub empty_head : ℕ → RowHead
-empty_head part = record { part = part; right = true }
+-- the head of an empty row of the part, whose bits have so many words
+abbrev pub empty_head : ℕ → ℕ → RowHead
+empty_head split part = record { part = part; split = split; right = true }
 
 -- row i of the heads and the tables
+abbrev pub split_at : List RowHead → ℕ → ℕ
+split_at heads i = (slice_index_or heads i no_head).split
+
 abbrev pub row_of : List RowHead → List (List ℕ) → List (List ℕ) → ℕ → PackedRow
-row_of heads bits sources i =
-    record { part = (slice_index_or heads i no_head).part; bits = words_at bits i; right = (slice_index_or heads i no_head).right; sources = words_at sources i }
+row_of heads words apart i =
+    record {
+      part = (slice_index_or heads i no_head).part;
+      bits = take (split_at heads i) (words_at words i);
+      right = (slice_index_or heads i no_head).right;
+      sources = sources_in (split_at heads i) (words_at words i) (words_at apart i);
+    }
 
 abbrev pub rows_of : List RowHead → List (List ℕ) → List (List ℕ) → List PackedRow
-rows_of heads bits sources = map (row_of heads bits sources) (range_with_len 0 (length heads))
+rows_of heads words apart = map (row_of heads words apart) (range_with_len 0 (length heads))
 
 -- the tables have a row for each head
-pub record AreTables (heads : List RowHead) (bits sources : List (List ℕ)) : Type 0 where
-  pub bits_count : length bits ≡ length heads
-  pub sources_count : length sources ≡ length heads
+pub record AreTables (heads : List RowHead) (words apart : List (List ℕ)) : Type 0 where
+  pub words_count : length words ≡ length heads
+  pub apart_count : length apart ≡ length heads
+  pub split : (i : ℕ) → i < length heads → IsSplit (split_at heads i) (words_at words i) (words_at apart i)
 
 -- no row but this one has changed
 pub record IsOnlyChange (row : ℕ) (old new : List PackedRow) : Type 0 where

@@ -2,10 +2,14 @@
 ghost use Rattle.std.specs.Prelude.{◌≡◌, ℕ, ◌<◌, ◌≤◌, length, slice_index};
 ghost use Rattle.gf2_rows.specs.Tables.{IsZeroOutside};
 
-/// The place of the first word that is not zero, and the place after the last one.
+/// The place of the first word that is not zero, and the place after the last one; all of fewer than eight words.
 pub(crate) fn span_of(words: &[u64]) -> (usize, usize)
     ensures { IsZeroOutside words.now result.0 result.1 }
 {
+    // Few words are added sooner than they are looked at.
+    if words.len() < 8 {
+        return (0, words.len());
+    }
     let low = first_of(words);
     (low, end_of(words, low))
 }
