@@ -1,10 +1,11 @@
 //! What the rows of a reduced matrix say.
-ghost use Rattle.std.specs.Prelude.{◌≡◌, ℕ, ◌<◌, length};
-ghost use Rattle.gf2_matrix.specs.Content.{IsOfGiven, IsReducedRow};
+ghost use Rattle.std.specs.Prelude.{◌≡◌, ℕ, ◌<◌, ◌≤◌, length};
+ghost use Rattle.gf2_matrix.specs.Bits.{AreBitsOf, reach};
+ghost use Rattle.gf2_matrix.specs.Content.{Content, IsOfGiven, IsReducedRow};
 ghost use Rattle.gf2_matrix.specs.Views.{words_for};
 ghost use Rattle.gauss_jordan.specs.Found.{IsKind, Shows, SumsTo};
 
-use gf2_matrix::Matrix;
+use gf2_matrix::{Matrix, RowBits};
 
 /// What one row says under the values assigned.
 #[derive(Clone, Copy, Drop)]
@@ -27,13 +28,12 @@ pub enum FoundRow {
     Contradiction(usize),
 }
 
-/// Whether the row's sum over the true columns is not its right side.
-pub fn is_unmet(matrix: &Matrix, row: usize, truths: &[u64]) -> bool
-    requires row_in { row < length matrix.now.rows }
-    requires wide { length truths.now ≡ words_for (length matrix.now.columns) }
-    ensures { SumsTo matrix.now truths.now row result }
+/// Whether the sum over the true columns of the row of these bits is not its right side.
+pub fn is_unmet(bits: &RowBits<'_>, truths: &[u64]) -> bool
+    requires { reach bits.now ≤ length truths.now }
+    ensures { (c : Content) (r : ℕ) → AreBitsOf c r bits.now → length truths.now ≡ words_for (length c.columns) → SumsTo c truths.now r result }
 {
-    matrix.row_sum(row, truths) ^ matrix.row_right(row)
+    bits.parity_and(truths) ^ bits.right()
 }
 
 fn kind_of(matrix: &Matrix, row: usize, assigned: &[u64], truths: &[u64]) -> RowKind
@@ -43,7 +43,7 @@ fn kind_of(matrix: &Matrix, row: usize, assigned: &[u64], truths: &[u64]) -> Row
     ensures { IsKind matrix.now assigned.now truths.now row result }
 {
     let _rows = matrix.rows();
-    let differs = is_unmet(matrix, row, truths);
+    let differs = is_unmet(&matrix.row_bits(row), truths);
     match matrix.first_outside(row, assigned, None) {
         None if differs => RowKind::Unmet,
         None => RowKind::Met,

@@ -89,7 +89,7 @@ module _ (vars : ℕ) (given : List (List Literal)) (columns places : List ℕ) 
       omega arith
 
   -- the row's words are those for its part's columns, which are among all columns
-  sizes : (d : PackedRow) (e : Part) → d ≡ get_or rows r d → e ≡ get_or parts d.part e
+  pub sizes : (d : PackedRow) (e : Part) → d ≡ get_or rows r d → e ≡ get_or parts d.part e
       → (e.base + length e.columns.items ≤ length s.columns) × (length d.bits ≡ words_for (e.base % 64 + length e.columns.items)) × (length s.columns ≤ MAX_VARIABLE)
   sizes d e d_is e_is =
       let row_in = row_within vars given columns (map window parts) rows r s seen lt in

@@ -1,7 +1,7 @@
 use Rattle.std.proofs.Common.{◌+◌, ◌<◌, ◌∙◌, length, sym, subst, arith}
 use Rattle.gf2_matrix.proofs.ColumnSets.{first_place}
 use Rattle.gf2_matrix.proofs.Steps.{up_to}
-use Rattle.gauss_incremental.proofs.Queueing.{awake_all, awake_kept, awake_next, awake_none, by_words}
+use Rattle.gauss_incremental.proofs.Queueing.{awake_all, awake_kept, awake_next, awake_none}
 use Rattle.gauss_incremental.proofs.basics.wake_rows_with.Goals as goal
 use Rattle.gauss_incremental.proofs.basics.wake_rows_with.Goals.{In-Some}
 
@@ -49,7 +49,7 @@ loop-other-preserved-then-not-keeps_watched c =
         c.in-Some.other + 1,
         up_to next.0.1,
         next.1,
-        awake_next c.args.matrix.now c.args.row c.args.column c.args.watched.now c.args.line.now c.loop-other.line c.push.new.self so.0 c.in-Some.other so.3 next.0 c.push.ensures (by_words c.args.matrix.now c.args.row c.columns-columns.result c.row_bits-low.result.0 c.row_bits-low.result.1 _ c.columns-columns.ensures.count c.row_bits-low.ensures.bits ∙ sym c.keeps_watched.ensures ∙ c.if-not-keeps_watched.true),
+        awake_next c.args.matrix.now c.args.row c.args.column c.args.watched.now c.args.line.now c.loop-other.line c.push.new.self so.0 c.in-Some.other so.3 next.0 c.push.ensures (sym (c.keeps_watched.ensures c.args.row c.row_bits-bits.ensures) ∙ c.if-not-keeps_watched.true),
       ),
     )
 
@@ -62,7 +62,7 @@ loop-other-preserved c =
         c.in-Some.other + 1,
         up_to next.0.1,
         next.1,
-        awake_kept c.args.matrix.now c.args.row c.args.column c.args.watched.now c.args.line.now c.loop-other.line so.0 c.in-Some.other so.3 next.0 (by_words c.args.matrix.now c.args.row c.columns-columns.result c.row_bits-low.result.0 c.row_bits-low.result.1 _ c.columns-columns.ensures.count c.row_bits-low.ensures.bits ∙ sym c.keeps_watched.ensures ∙ c.if-not-keeps_watched.false),
+        awake_kept c.args.matrix.now c.args.row c.args.column c.args.watched.now c.args.line.now c.loop-other.line so.0 c.in-Some.other so.3 next.0 (sym (c.keeps_watched.ensures c.args.row c.row_bits-bits.ensures) ∙ c.if-not-keeps_watched.false),
       ),
     )
 

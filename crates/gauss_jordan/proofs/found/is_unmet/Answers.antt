@@ -5,6 +5,6 @@ use Rattle.gf2_rows.proofs.Words.{differ-beq}
 use Rattle.gauss_jordan.proofs.found.is_unmet.Goals as goal
 
 pub returns : goal.returns
-returns c = λ v long holds.
-    ap (λ b. differ b (row_at c.args.matrix.now.rows c.args.row).right) (sym (c.row_sum.ensures v long holds))
-    ∙ ap (differ c.row_sum.result) (sym c.row_right.ensures) ∙ sym (differ-beq c.row_sum.result c.row_right.result)
+returns c = λ m r of wide v long holds.
+    ap (λ b. differ b (row_at m.rows r).right) (sym (c.parity_and.ensures ∙ of.sum c.args.truths.now v wide long holds))
+    ∙ ap (differ c.parity_and.result) (sym (c.right.ensures ∙ of.right)) ∙ sym (differ-beq c.parity_and.result c.right.result)
