@@ -55,7 +55,7 @@ module _ (formula : Problem) (c : SearchState) (e : State) (told : Option (List 
       known_is_true e fed.older fed.values fed.newer c.trail.entries (subst (λ es. IsTied es c.trail.entries) fed.parts st.3.trail.follows.tied) l h
 
   -- a stored clause that is falsified
-  pub stored_concludes : (r : ℕ) → IsLive c.arena r → IsFalsified c.trail.entries (literals_at c.arena r) → (k : Conflict) → k.lits ≡ literals_at c.arena r → k.id ≡ id_at c.arena r → k.rows.items ≡ [] → IsId k.id → Concludes formula c e told None (Clause k)
+  pub stored_concludes : (r : ℕ) → IsLive c.arena r → IsFalsified c.trail.entries (literals_at c.arena r) → (k : Conflict) → k.lits ≡ literals_at c.arena r → k.id ≡ id_at c.arena r → k.rows ≡ [] → IsId k.id → Concludes formula c e told None (Clause k)
   stored_concludes r live falsified k are at none is_id = (
     subst (λ rows. SearchStands formula c e rows told) (sym none) st,
     record { sourced = inl (r, live, are, at); all_false = λ m h. falsified m (of_has (literals_at c.arena r) m (ap (λ ls. has_literal ls m) (sym are) ∙ h)) },
@@ -63,7 +63,7 @@ module _ (formula : Problem) (c : SearchState) (e : State) (told : Option (List 
   )
 
   -- a stored clause or a unit clause that implied a literal
-  pub hinted_concludes : (l : Literal) (k : Conflict) → k.rows.items ≡ [] → IsId k.id → IsSourcedBy c [] k.lits k.id → IsAntecedent c.trail l k.lits → Concludes formula c e told (Some l) (Clause k)
+  pub hinted_concludes : (l : Literal) (k : Conflict) → k.rows ≡ [] → IsId k.id → IsSourcedBy c [] k.lits k.id → IsAntecedent c.trail l k.lits → Concludes formula c e told (Some l) (Clause k)
   hinted_concludes l k none is_id sourced implied = (
     subst (λ rows. SearchStands formula c e rows told) (sym none) st,
     (subst (λ rows. IsSourcedBy c rows k.lits k.id) (sym none) sourced, implied),
@@ -178,7 +178,7 @@ module _ (formula : Problem) (c : SearchState) (e : State) (told : Option (List 
     )
 
 pub found_concludes : (formula : Problem) (c : SearchState) (e : State) (told : Option (List LogEvent)) → SearchStands formula c e [] told → (what : Found) (r : ℕ) → what ≡ found.Clause r → PropagationFinds c e what
-    → (k : Conflict) → k.lits ≡ literals_at c.arena r → k.id ≡ id_at c.arena r → k.rows.items ≡ [] → IsId k.id → Concludes formula c e told None (Clause k)
+    → (k : Conflict) → k.lits ≡ literals_at c.arena r → k.id ≡ id_at c.arena r → k.rows ≡ [] → IsId k.id → Concludes formula c e told None (Clause k)
 found_concludes formula c e told st what r is finds k are at none is_id =
     let f = subst (PropagationFinds c e) is finds in
     stored_concludes formula c e told st r (st.4.fits.nodes.live r f.0) f.1 k are at none is_id

@@ -29,23 +29,23 @@ alike_then a b c h k = record { state = k.state ∙ h.state; engine = k.engine �
 
 -- the search fits its log, with the clauses of rows that were told; the given row is the first whose clause would end the log, and the log goes on
 pub record CanBeAsked {P L : Type 0} (p : engine.Ghosts P) (m : sink.Ghosts L LogEvent) (a : ZeroSource P L) : Type 0 where
-  pub stands : Stands p m a.log.now a.state.now a.engine.now a.rows.now.items
+  pub stands : Stands p m a.log.now a.state.now a.engine.now a.rows.now
   pub first : IsFirst a.log.now.formula.now.constraints a.state.now (p.state a.engine.now) a.first.now
   pub going : HasNotFailed m a.log.now
 
 -- a row's clause can be told
 abbrev pub HasRoom : {P L : Type 0} → ZeroSource P L → Type 0
-HasRoom a = length a.rows.now.items ≤ a.log.now.formula.now.variables
+HasRoom a = length a.rows.now ≤ a.log.now.formula.now.variables
 
 -- the clause implied the literal, and is held
 pub record IsClauseFor {P L : Type 0} (old new : ZeroSource P L) (l : Literal) (h : Hinted) : Type 0 where
-  pub held : IsHeldBeside new.state.now new.rows.now.items new.first.now h.lits h.id
+  pub held : IsHeldBeside new.state.now new.rows.now new.first.now h.lits h.id
   pub implied : IsAntecedent old.state.now.trail l h.lits
 
 -- what was held is held, and one more clause of a row at most
 pub record HoldsOneMore {P L T : Type 0} (old : ZeroSource P L) (result : Result T CoreFault) (new : ZeroSource P L) : Type 0 where
-  pub grows : AreHeld (IsHeldBeside old.state.now old.rows.now.items old.first.now) (IsHeldBeside new.state.now new.rows.now.items new.first.now)
-  pub one : OnOk result (length new.rows.now.items ≤ length old.rows.now.items + 1)
+  pub grows : AreHeld (IsHeldBeside old.state.now old.rows.now old.first.now) (IsHeldBeside new.state.now new.rows.now new.first.now)
+  pub one : OnOk result (length new.rows.now ≤ length old.rows.now + 1)
 
 -- up to an answer it can be asked again; the log goes on
 pub record AnswersOn {P L T : Type 0} (p : engine.Ghosts P) (m : sink.Ghosts L LogEvent) (old : ZeroSource P L) (result : Result T CoreFault) (new : ZeroSource P L) : Type 0 where

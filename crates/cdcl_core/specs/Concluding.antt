@@ -72,13 +72,13 @@ pub record EndsByHints (formula : Problem) (c : SearchState) (told : Option (Lis
 
 -- the clause of a conflict has an id that a step may have, and at most one clause of a row was told for it
 abbrev pub IsTold : Conflict → Type 0
-IsTold k = IsId k.id × (length k.rows.items ≤ 1)
+IsTold k = IsId k.id × (length k.rows ≤ 1)
 
 -- the clause of a row is the conflict's, and the only one that was told for it
 pub record IsToldRow (c : SearchState) (clause : List Literal) (k : Conflict) : Type 0 where
   pub lits : k.lits ≡ clause
   pub id : k.id ≡ first_row_id c.next
-  pub rows : k.rows.items ≡ clause ∷ []
+  pub rows : k.rows ≡ clause ∷ []
   pub told : IsTold k
 
 -- Up to an answer the end is told: no values meet the formula, and the log shows it, marked no more often than before. The answer is the assumptions that fail. The log goes on.
@@ -103,7 +103,7 @@ IsClauseAgainst c rows (Some l) clause n = IsSourcedBy c rows clause n × IsAnte
 
 -- such a clause, or steps that end the log, where what fails has no unit clause of level 0
 abbrev pub Concludes : Problem → SearchState → State → Option (List LogEvent) → Option Literal → Conclusion → Type 0
-Concludes formula c e told kept (Clause k) = SearchStands formula c e k.rows.items told × IsClauseAgainst c k.rows.items kept k.lits k.id × IsTold k
+Concludes formula c e told kept (Clause k) = SearchStands formula c e k.rows told × IsClauseAgainst c k.rows kept k.lits k.id × IsTold k
 Concludes formula c e told kept (Ending n) = SearchStands formula c e [] told × EndsLog formula c told n.failed n.steps.items × AreShort c kept n.failed
 
 -- it is a clause, and not steps that end the log

@@ -22,7 +22,7 @@ use crate::shortening::{last_steps, shorten};
 use cdcl_search::logs::SearchLog;
 use cdcl_search::rows::{first_id_of_rows, tell_reason};
 use cdcl_search::source::{Hinted, stored, unit};
-use cdcl_search::{Found, SearchState};
+use cdcl_search::{Found, SearchState, ToldRows};
 use conflict_learn::CoreFault;
 use cx_base::{Formula, Lit, LitList, LogEvent, LogStep, Row};
 use cx_trail::Reason;
@@ -37,7 +37,7 @@ use xor_reason::{ReasonOf, reason_clause};
 pub(crate) struct Conflict {
     pub lits: LitList,
     pub id: u64,
-    pub rows: Vec<LitList>,
+    pub rows: ToldRows,
 }
 
 /// Steps that end the log, and the assumed literals that fail then.
@@ -95,10 +95,10 @@ pub(crate) fn told_row<P: ParityEngine, L: Sink<Item = LogEvent>>(
     requires goes_on { IsFalse (is_ending log.old.formula.now.constraints reason.clause) }
     requires going { HasNotFailed L.Sink log.old }
     ensures told { IfOk result (IsToldRow state.now reason.clause) }
-    ensures stands { IfOk result (λ k. Stands P.ParityEngine L.Sink log.new state.now engine.now k.rows.items) }
+    ensures stands { IfOk result (λ k. Stands P.ParityEngine L.Sink log.new state.now engine.now k.rows) }
     ensures log { GoesOn L.Sink log.old (fault_in result) log.new }
 {
-    let mut rows = Vec::new(log.alloc);
+    let mut rows = ToldRows::new();
     match tell_reason(log, state, engine, reason, &mut rows) {
         Ok(lits) => Ok(Conflict {
             lits,
@@ -134,13 +134,13 @@ fn of_row<P: ParityEngine, L: Sink<Item = LogEvent>>(
 }
 
 /// What comes of a clause for which no row is told.
-fn of_stored(alloc: Global, hinted: Hinted) -> Conclusion
-    ensures { (k : Conflict) × (result ≡ conclusion.Clause k) × (k.lits ≡ hinted.lits) × (k.id ≡ hinted.id) × (k.rows.items ≡ []) }
+fn of_stored(hinted: Hinted) -> Conclusion
+    ensures { (k : Conflict) × (result ≡ conclusion.Clause k) × (k.lits ≡ hinted.lits) × (k.id ≡ hinted.id) × (k.rows ≡ []) }
 {
     Conclusion::Clause(Conflict {
         lits: hinted.lits,
         id: hinted.id,
-        rows: Vec::new(alloc),
+        rows: ToldRows::new(),
     })
 }
 
@@ -159,7 +159,7 @@ pub(crate) fn conflict_clause<P: ParityEngine, L: Sink<Item = LogEvent>>(
     ensures by_clause { IsOfClause found → IfOk result IsByClause }
 {
     match found {
-        Found::Clause(reference) => Ok(of_stored(log.alloc, stored(log.alloc, state, reference)?)),
+        Found::Clause(reference) => Ok(of_stored(stored(log.alloc, state, reference)?)),
         Found::Row(row) => of_row(log, state, engine, row, None),
         Found::Quiet => unreachable!(),
     }
@@ -180,7 +180,7 @@ fn reason_against<P: ParityEngine, L: Sink<Item = LogEvent>>(
     ensures { ConcludesOn P.ParityEngine L.Sink log.old log.new state.now engine.now (Some literal) result }
 {
     match reason {
-        Reason::Clause(reference) => Ok(of_stored(log.alloc, stored(log.alloc, state, reference)?)),
+        Reason::Clause(reference) => Ok(of_stored(stored(log.alloc, state, reference)?)),
         Reason::Row(row) => of_row(log, state, engine, row, Some(literal)),
         Reason::Decision => unreachable!(),
     }
@@ -202,7 +202,7 @@ pub(crate) fn clause_against<P: ParityEngine, L: Sink<Item = LogEvent>>(
     ensures { ConcludesOn P.ParityEngine L.Sink log.old log.new state.now engine.now (Some (entry_at state.now.trail.entries place).literal) result }
 {
     if place < state.units.len() {
-        return Ok(of_stored(log.alloc, unit(log.alloc, state, place)?));
+        return Ok(of_stored(unit(log.alloc, state, place)?));
     }
     let entry = state.trail.entry(place);
     reason_against(log, state, engine, entry.reason, entry.literal)

@@ -8,10 +8,10 @@ ghost use Rattle.cdcl_core.specs.Failing.{IsFailure, IsLeftOf};
 
 use crate::conflicts::Conflict;
 use crate::learning::hints_of_lesson;
-use cdcl_search::SearchState;
 use cdcl_search::chains::tell_chained;
 use cdcl_search::logs::SearchLog;
 use cdcl_search::source::Source;
+use cdcl_search::{SearchState, ToldRows};
 use conflict_learn::{CoreFault, Final, Marks, analyse_final};
 use cx_base::{Lit, LitList, LogEvent};
 use parity_engine::ParityEngine;
@@ -47,15 +47,15 @@ fn trace<'x, P: ParityEngine, L: Sink<Item = LogEvent>>(
     lits: &LitList,
     kept: &Option<Lit>,
     below: usize,
-    rows: &'x mut Vec<LitList>,
+    rows: &'x mut ToldRows,
     marks: &mut Marks,
 ) -> Result<Final, CoreFault>
-    requires ready { CanAnalyse P.ParityEngine L.Sink log.old state.now engine.now marks.old rows.old.items }
-    requires fails { (n : ℕ) × IsFailure log.old.formula.now.constraints state.now lits.now n kept.now below rows.old.items }
-    requires few_rows { length rows.old.items ≤ 1 }
-    ensures left { (n : ℕ) → IsFailure log.old.formula.now.constraints state.now lits.now n kept.now below rows.old.items
-        → IfOk result (IsLeftOf log.new.formula.now.constraints state.now lits.now n kept.now below rows.new.items) }
-    ensures on { AnalysesOn P.ParityEngine L.Sink log.old log.new state.now engine.now marks.new rows.new.items result }
+    requires ready { CanAnalyse P.ParityEngine L.Sink log.old state.now engine.now marks.old rows.old }
+    requires fails { (n : ℕ) × IsFailure log.old.formula.now.constraints state.now lits.now n kept.now below rows.old }
+    requires few_rows { length rows.old ≤ 1 }
+    ensures left { (n : ℕ) → IsFailure log.old.formula.now.constraints state.now lits.now n kept.now below rows.old
+        → IfOk result (IsLeftOf log.new.formula.now.constraints state.now lits.now n kept.now below rows.new) }
+    ensures on { AnalysesOn P.ParityEngine L.Sink log.old log.new state.now engine.now marks.new rows.new result }
 {
     let alloc = log.alloc;
     let mut source = Source {
@@ -84,8 +84,8 @@ pub(crate) fn fail<P: ParityEngine, L: Sink<Item = LogEvent>>(
     marks: &mut Marks,
     failure: Failure,
 ) -> Result<LitList, CoreFault>
-    requires ready { CanAnalyse P.ParityEngine L.Sink log.old state.now engine.now marks.old failure.conflict.rows.items }
-    requires fails { IsFailure log.old.formula.now.constraints state.now failure.conflict.lits failure.conflict.id failure.kept failure.below failure.conflict.rows.items }
+    requires ready { CanAnalyse P.ParityEngine L.Sink log.old state.now engine.now marks.old failure.conflict.rows }
+    requires fails { IsFailure log.old.formula.now.constraints state.now failure.conflict.lits failure.conflict.id failure.kept failure.below failure.conflict.rows }
     requires told { IsTold failure.conflict }
     ensures ends { TellsEnd L.Sink log.old state.now log.new result }
     ensures none { failure.kept ≡ None → state.now.trail.level ≡ 0 → IfOk result (λ failed. failed ≡ []) }

@@ -94,10 +94,10 @@ fn tell_learned<P: ParityEngine, L: Sink<Item = LogEvent>>(
     conflict: &Conflict,
     learned: &Learned,
 ) -> Result<(), CoreFault>
-    requires at { IsAtConflict P.ParityEngine L.Sink log.old state.now engine.now conflict.now.rows.items conflict.now.lits conflict.now.id }
+    requires at { IsAtConflict P.ParityEngine L.Sink log.old state.now engine.now conflict.now.rows conflict.now.lits conflict.now.id }
     requires id { IsId conflict.now.id }
     requires may { MayLearn log.old.formula.now state.now }
-    requires lesson { IsLesson state.now conflict.now.rows.items conflict.now.lits learned.now }
+    requires lesson { IsLesson state.now conflict.now.rows conflict.now.lits learned.now }
     requires going { HasNotFailed L.Sink log.old }
     ensures learned { OnOk result (Learns log.new.formula.now state.now (P.state engine.now) learned.now.lits learned.now.back_level (told_in L.Sink log.new)) }
     ensures log { GoesOn L.Sink log.old (fault_in result) log.new }
@@ -121,14 +121,14 @@ fn lesson_of<'x, P: ParityEngine, L: Sink<Item = LogEvent>>(
     marks: &mut Marks,
     conflict: &'x mut Conflict,
 ) -> Result<Learned, CoreFault>
-    requires ready { CanAnalyse P.ParityEngine L.Sink log.old state.now engine.now marks.old conflict.old.rows.items }
-    requires conflict { IsConflictClause state.now conflict.old.rows.items conflict.old.lits conflict.old.id }
+    requires ready { CanAnalyse P.ParityEngine L.Sink log.old state.now engine.now marks.old conflict.old.rows }
+    requires conflict { IsConflictClause state.now conflict.old.rows conflict.old.lits conflict.old.id }
     requires told { IsTold conflict.old }
     requires may { MayLearn log.old.formula.now state.now }
-    ensures lesson { IfOk result (IsLesson state.now conflict.new.rows.items conflict.new.lits) }
-    ensures conflict { OnOk result (IsConflictClause state.now conflict.new.rows.items conflict.new.lits conflict.new.id) }
+    ensures lesson { IfOk result (IsLesson state.now conflict.new.rows conflict.new.lits) }
+    ensures conflict { OnOk result (IsConflictClause state.now conflict.new.rows conflict.new.lits conflict.new.id) }
     ensures id { conflict.new.id ≡ conflict.old.id }
-    ensures on { AnalysesOn P.ParityEngine L.Sink log.old log.new state.now engine.now marks.new conflict.new.rows.items result }
+    ensures on { AnalysesOn P.ParityEngine L.Sink log.old log.new state.now engine.now marks.new conflict.new.rows result }
 {
     let alloc = log.alloc;
     let mut source = Source {
@@ -149,8 +149,8 @@ pub(crate) fn learn<P: ParityEngine, L: Sink<Item = LogEvent>>(
     marks: &mut Marks,
     conflict: Conflict,
 ) -> Result<Learned, CoreFault>
-    requires ready { CanAnalyse P.ParityEngine L.Sink log.old state.now engine.now marks.old conflict.rows.items }
-    requires conflict { IsConflictClause state.now conflict.rows.items conflict.lits conflict.id }
+    requires ready { CanAnalyse P.ParityEngine L.Sink log.old state.now engine.now marks.old conflict.rows }
+    requires conflict { IsConflictClause state.now conflict.rows conflict.lits conflict.id }
     requires told { IsTold conflict }
     requires may { MayLearn log.old.formula.now state.now }
     ensures learned { IfOk result (λ r. Learns log.new.formula.now state.now (P.state engine.now) r.lits r.back_level (told_in L.Sink log.new)) }

@@ -12,10 +12,10 @@ ghost use Rattle.cdcl_core.specs.Analysing.{AnalysesOn, CanAnalyse};
 ghost use Rattle.cdcl_core.specs.Refuting.{IsFirst, IsHeldBeside, IsImpliedByRow, IsLiteralOf, IsUntold};
 
 use crate::ending_rows::{EndingRow, LevelZero};
-use cdcl_search::SearchState;
 use cdcl_search::logs::SearchLog;
 use cdcl_search::rows::{copy_of, next_ids, tell_reason};
 use cdcl_search::source::{Hinted, stored, unit};
+use cdcl_search::{SearchState, ToldRows};
 use conflict_learn::{Antecedents, CoreFault, Final, Marks, analyse_final};
 use cx_base::{Lit, LitList, LogEvent, Row};
 use cx_trail::Reason;
@@ -52,7 +52,7 @@ struct ZeroSource<'a, 'b, 'r, 'f, P, L> {
     state: &'a SearchState,
     engine: &'a P,
     /// The clauses of rows that were told since the last mark, in the order of their ids.
-    rows: &'r mut Vec<LitList>,
+    rows: &'r mut ToldRows,
     /// The first row whose clause would end the log.
     first: &'f Option<EndingRow>,
 }
@@ -126,11 +126,11 @@ impl<P: ParityEngine, L: Sink<Item = LogEvent>> ZeroSource<'_, '_, '_, '_, P, L>
 impl<P: ParityEngine, L: Sink<Item = LogEvent>> Antecedents for ZeroSource<'_, '_, '_, '_, P, L> {
     ghost trail = { λ a. a.state.now.trail };
 
-    ghost holds = { λ a c n. IsHeldBeside a.state.now a.rows.now.items a.first.now c n };
+    ghost holds = { λ a c n. IsHeldBeside a.state.now a.rows.now a.first.now c n };
 
     ghost ready = { λ a. CanBeAsked P.ParityEngine L.Sink a };
 
-    ghost room = { λ a. a.log.now.formula.now.variables + 1 - length a.rows.now.items };
+    ghost room = { λ a. a.log.now.formula.now.variables + 1 - length a.rows.now };
 
     ghost reach = { λ a. length a.state.now.trail.entries };
 
@@ -161,17 +161,17 @@ pub(crate) fn trace_all<'x, 'r, 'f, P: ParityEngine, L: Sink<Item = LogEvent>>(
     engine: &'x P,
     clause: &LitList,
     first: &'f Option<EndingRow>,
-    rows: &'r mut Vec<LitList>,
+    rows: &'r mut ToldRows,
     marks: &mut Marks,
 ) -> Result<Final, CoreFault>
-    requires ready { CanAnalyse P.ParityEngine L.Sink log.old state.now engine.now marks.old rows.old.items }
+    requires ready { CanAnalyse P.ParityEngine L.Sink log.old state.now engine.now marks.old rows.old }
     requires first { IsFirst log.old.formula.now.constraints state.now (P.state engine.now) first.now }
     requires false_now { (m : Literal) → IsTrue (has_literal clause.now m) → IsFalseIn state.now.trail.entries m }
-    requires few_rows { length rows.old.items ≤ 1 }
-    ensures held { AreHeld (IsHeldBeside state.now rows.old.items first.now) (IsHeldBeside state.now rows.new.items first.now) }
-    ensures left { IfOk result (λ x. IsFinal state.now.trail (length state.now.trail.entries) None clause.now (IsHeldBeside state.now rows.new.items first.now) x.resolved.items x.lits) }
+    requires few_rows { length rows.old ≤ 1 }
+    ensures held { AreHeld (IsHeldBeside state.now rows.old first.now) (IsHeldBeside state.now rows.new first.now) }
+    ensures left { IfOk result (λ x. IsFinal state.now.trail (length state.now.trail.entries) None clause.now (IsHeldBeside state.now rows.new first.now) x.resolved.items x.lits) }
     ensures stand { IfOk result (λ x. (l : Literal) → IsTrue (has_literal (literals_of x.resolved.items) l) → StandsBelow state.now.trail (length state.now.trail.entries) l) }
-    ensures on { AnalysesOn P.ParityEngine L.Sink log.old log.new state.now engine.now marks.new rows.new.items result }
+    ensures on { AnalysesOn P.ParityEngine L.Sink log.old log.new state.now engine.now marks.new rows.new result }
 {
     let alloc = log.alloc;
     let below = state.trail.len();

@@ -25,7 +25,7 @@ use crate::learning::{hints_of_lesson, hints_of_resolved};
 use crate::level_zero::{NOT_TOLD, trace_all};
 use crate::refuted_rows::end_of_refuted;
 use cdcl_search::logs::SearchLog;
-use cdcl_search::{Found, SearchState};
+use cdcl_search::{Found, SearchState, ToldRows};
 use conflict_learn::{CoreFault, Marks, Resolved};
 use cx_base::{ClauseRef, IntList, LitList, LogEvent, Row};
 use parity_engine::ParityEngine;
@@ -86,8 +86,8 @@ impl<P: ParityEngine, L: Sink<Item = LogEvent>> Analyser<'_, '_, P, L> {
         conflict: &mut Conflict,
         first: &Option<EndingRow>,
     ) -> Result<LitList, CoreFault>
-        requires at { IsAtZero P.ParityEngine L.Sink self.old conflict.old.rows.items }
-        requires conflict { IsConflictClause self.old.state.now conflict.old.rows.items conflict.old.lits conflict.old.id }
+        requires at { IsAtZero P.ParityEngine L.Sink self.old conflict.old.rows }
+        requires conflict { IsConflictClause self.old.state.now conflict.old.rows conflict.old.lits conflict.old.id }
         requires told { IsTold conflict.old }
         requires first { IsFirstOf P.ParityEngine self.old first.now }
         requires none { first.now ≡ None }
@@ -112,7 +112,7 @@ impl<P: ParityEngine, L: Sink<Item = LogEvent>> Analyser<'_, '_, P, L> {
         &mut self,
         reason: &ReasonOf,
         hints: &IntList,
-        rows: &[LitList],
+        rows: &ToldRows,
     ) -> Result<LitList, CoreFault>
         requires at { IsAtZero P.ParityEngine L.Sink self.old rows.now }
         requires reason { Explains (P.state self.old.engine.now).parities self.old.state.now.trail reason.now }
@@ -137,8 +137,8 @@ impl<P: ParityEngine, L: Sink<Item = LogEvent>> Analyser<'_, '_, P, L> {
         conflict: &mut Conflict,
         first: &Option<EndingRow>,
     ) -> Result<LitList, CoreFault>
-        requires at { IsAtZero P.ParityEngine L.Sink self.old conflict.old.rows.items }
-        requires conflict { IsConflictClause self.old.state.now conflict.old.rows.items conflict.old.lits conflict.old.id }
+        requires at { IsAtZero P.ParityEngine L.Sink self.old conflict.old.rows }
+        requires conflict { IsConflictClause self.old.state.now conflict.old.rows conflict.old.lits conflict.old.id }
         requires told { IsTold conflict.old }
         requires first { IsFirstOf P.ParityEngine self.old first.now }
         requires some { (row : EndingRow) × (first.now ≡ Some row) }
@@ -163,8 +163,8 @@ impl<P: ParityEngine, L: Sink<Item = LogEvent>> Analyser<'_, '_, P, L> {
         conflict: &mut Conflict,
         first: &Option<EndingRow>,
     ) -> Result<LitList, CoreFault>
-        requires at { IsAtZero P.ParityEngine L.Sink self.old conflict.old.rows.items }
-        requires conflict { IsConflictClause self.old.state.now conflict.old.rows.items conflict.old.lits conflict.old.id }
+        requires at { IsAtZero P.ParityEngine L.Sink self.old conflict.old.rows }
+        requires conflict { IsConflictClause self.old.state.now conflict.old.rows conflict.old.lits conflict.old.id }
         requires told { IsTold conflict.old }
         requires first { IsFirstOf P.ParityEngine self.old first.now }
         ensures { TellsRefutation L.Sink self.old result self.new }
@@ -180,10 +180,10 @@ impl<P: ParityEngine, L: Sink<Item = LogEvent>> Analyser<'_, '_, P, L> {
         &mut self,
         reason: &ReasonOf,
         first: &Option<EndingRow>,
-        rows: &mut Vec<LitList>,
+        rows: &mut ToldRows,
     ) -> Result<LitList, CoreFault>
-        requires at { IsAtZero P.ParityEngine L.Sink self.old rows.old.items }
-        requires rows { rows.old.items ≡ [] }
+        requires at { IsAtZero P.ParityEngine L.Sink self.old rows.old }
+        requires rows { rows.old ≡ [] }
         requires first { IsFirstOf P.ParityEngine self.old first.now }
         requires none { first.now ≡ None }
         requires reason { IsReason (P.state self.old.engine.now).parities self.old.state.now.trail None reason.now }
@@ -216,7 +216,7 @@ impl<P: ParityEngine, L: Sink<Item = LogEvent>> Analyser<'_, '_, P, L> {
         ensures { TellsRefutation L.Sink self.old result self.new }
     {
         if self.log.formula.is_ending(reason.clause.as_slice()) {
-            let mut rows = Vec::new(self.log.alloc);
+            let mut rows = ToldRows::new();
             return self.refute_ending(&reason, first, &mut rows);
         }
         let mut conflict = told_row(self.log, self.state, self.engine, reason)?;

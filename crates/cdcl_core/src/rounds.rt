@@ -57,8 +57,8 @@ impl<P: ParityEngine, L: Sink<Item = LogEvent>> Run<'_, '_, P, L> {
         marks: &mut Marks,
         conflict: Conflict,
     ) -> Result<Option<SearchOutcome>, CoreFault>
-        requires searches { IsSearching P.ParityEngine L.Sink self.old assumptions.old marks.old conflict.rows.items }
-        requires conflict { IsConflictClause self.old.state.now conflict.rows.items conflict.lits conflict.id }
+        requires searches { IsSearching P.ParityEngine L.Sink self.old assumptions.old marks.old conflict.rows }
+        requires conflict { IsConflictClause self.old.state.now conflict.rows conflict.lits conflict.id }
         requires told { IsTold conflict }
         requires checked { assumptions.old.checked ≡ length self.old.state.now.trail.entries }
         requires free { assumptions.old.level < self.old.state.now.trail.level }

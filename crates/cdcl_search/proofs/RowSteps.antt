@@ -295,13 +295,13 @@ module _ (formula : Problem) (c : SearchState) (e : State) (rows : List (List Li
   sources_are r x = sources_are_ids (length formula.constraints) (length e.parities) r.sources st.3.engine.few st.3.ids.few x.numbers
 
   module _ (r : ReasonOf) (x : Explains e.parities c.trail r) (some : is_ending formula.constraints r.clause ≡ false) (room : length rows ≤ formula.variables)
-      (seen : List (List Literal)) (same : seen ≡ rows) (ids : RowIds) (next : AreNextIds (length formula.constraints) c.next (length seen) ids) where
+      (ids : RowIds) (next : AreNextIds (length formula.constraints) c.next (length rows) ids) where
     abbrev its : List LogEvent
     its = row_events ids.sum (integers_of r.parity) r.sources ids.clause (integers_of r.clause)
 
     are : its ≡ row_events (length formula.constraints + 1) (integers_of r.parity) r.sources (first_row_id c.next + length rows) (integers_of r.clause)
     are = ap (λ k. row_events k (integers_of r.parity) r.sources ids.clause (integers_of r.clause)) next.sum
-        ∙ ap (λ n. row_events (length formula.constraints + 1) (integers_of r.parity) r.sources n (integers_of r.clause)) (next.clause ∙ ap (λ xs. first_row_id c.next + length xs) same)
+        ∙ ap (λ n. row_events (length formula.constraints + 1) (integers_of r.parity) r.sources n (integers_of r.clause)) next.clause
 
     pub are_tellable : AreTellable its
     are_tellable =

@@ -11,8 +11,9 @@ use crate::logs::SearchLog;
 use crate::state::SearchState;
 use crate::steps::deletion;
 use crate::telling::tell_steps;
+use crate::told_rows::ToldRows;
 use conflict_learn::CoreFault;
-use cx_base::{LitList, LogEvent, LogStep};
+use cx_base::{LogEvent, LogStep};
 use parity_engine::ParityEngine;
 use std::alloc::{AllocError, Global};
 use step_text::Sink;
@@ -51,7 +52,7 @@ pub(crate) fn delete_rows<P: ParityEngine, L: Sink<Item = LogEvent>>(
     log: &mut SearchLog<L>,
     state: &SearchState,
     engine: &P,
-    rows: &[LitList],
+    rows: &ToldRows,
 ) -> Result<(), CoreFault>
     requires stands { StandsBeforeDeletion P.ParityEngine L.Sink log.old state.now engine.now rows.now }
     requires few { length rows.now ≤ 1 }

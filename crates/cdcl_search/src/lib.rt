@@ -15,9 +15,11 @@ pub mod source;
 mod state;
 pub mod steps;
 pub mod telling;
+mod told_rows;
 mod units;
 
 pub use models::values_of;
 pub use propagation::Found;
 pub use searching::{Reached, is_quiet, search_on, settle};
 pub use state::SearchState;
+pub use told_rows::ToldRows;

@@ -17,6 +17,7 @@ use crate::logs::SearchLog;
 use crate::state::SearchState;
 use crate::steps::{clause_of_sum, deletion_of_sum, sum};
 use crate::telling::{tell_step, tell_steps, tell_unmade};
+use crate::told_rows::ToldRows;
 use conflict_learn::CoreFault;
 use cx_base::{Formula, IdList, Lit, LitList, LogEvent, LogStep};
 use parity_engine::ParityEngine;
@@ -42,7 +43,7 @@ pub struct RowIds {
 }
 
 /// The ids of the next row, after these and the next id of a clause that stays.
-pub fn next_ids(formula: &Formula, next: u64, rows: &[LitList]) -> RowIds
+pub fn next_ids(formula: &Formula, next: u64, rows: &ToldRows) -> RowIds
     requires next { IsId next }
     requires few { AreFew formula.now.constraints next rows.now }
     ensures { AreNextIds (length formula.now.constraints) next (length rows.now) result }
@@ -199,16 +200,6 @@ pub fn copy_of(alloc: Global, lits: &[Lit]) -> Result<LitList, AllocError>
     Ok(LitList::from_vec(lits.to_vec(alloc)?))
 }
 
-/// A copy of these literals in the memory of a list that is not needed any more.
-fn copy_over(list: LitList, lits: &[Lit]) -> Result<LitList, AllocError>
-    ensures { IfOk result (λ copy. copy ≡ lits.now) }
-{
-    let mut copy = list.into_vec();
-    copy.clear();
-    copy.extend_from_slice(lits)?;
-    Ok(LitList::from_vec(copy))
-}
-
 /// Tells the clause of a row, which does not end the log, and adds it to those that were told.
 ///
 /// `engine` is the engine that named the row.
@@ -217,17 +208,17 @@ pub fn tell_reason<P: ParityEngine, L: Sink<Item = LogEvent>>(
     state: &SearchState,
     engine: &P,
     reason: ReasonOf,
-    rows: &mut Vec<LitList>,
+    rows: &mut ToldRows,
 ) -> Result<LitList, CoreFault>
-    requires stands { Stands P.ParityEngine L.Sink log.old state.now engine.now rows.old.items }
+    requires stands { Stands P.ParityEngine L.Sink log.old state.now engine.now rows.old }
     requires going { HasNotFailed L.Sink log.old }
     requires explains { Explains (P.state engine.now).parities state.now.trail reason }
     requires goes_on { IsFalse (is_ending log.old.formula.now.constraints reason.clause) }
-    requires room { length rows.old.items ≤ log.old.formula.now.variables }
+    requires room { length rows.old ≤ log.old.formula.now.variables }
     ensures clause { IfOk result (λ c. c ≡ reason.clause) }
-    ensures same { OnErr result (rows.new.items ≡ rows.old.items) }
-    ensures rows { OnOk result (rows.new.items ≡ rows.old.items ++ reason.clause ∷ []) }
-    ensures stands_on { StandsOn P.ParityEngine L.Sink log.old log.new state.now engine.now (rows.old.items ++ reason.clause ∷ []) result }
+    ensures same { OnErr result (rows.new ≡ rows.old) }
+    ensures rows { OnOk result (rows.new ≡ rows.old ++ reason.clause ∷ []) }
+    ensures stands_on { StandsOn P.ParityEngine L.Sink log.old log.new state.now engine.now (rows.old ++ reason.clause ∷ []) result }
 {
     let ids = next_ids(log.formula, state.next, rows);
     let ReasonOf {
@@ -236,7 +227,6 @@ pub fn tell_reason<P: ParityEngine, L: Sink<Item = LogEvent>>(
         clause,
     } = reason;
     tell_row(log, ids, &parity, sources, &clause)?;
-    let copy = copy_over(parity, clause.as_slice())?;
-    rows.push(copy)?;
+    rows.push(&clause);
     Ok(clause)
 }

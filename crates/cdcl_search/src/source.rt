@@ -17,6 +17,7 @@ ghost use Rattle.cdcl_search.specs.GoingOn.{log_rests, log_stops, log_then};
 use crate::logs::SearchLog;
 use crate::rows::{copy_of, next_ids, tell_reason};
 use crate::state::SearchState;
+use crate::told_rows::ToldRows;
 use conflict_learn::{Antecedents, CoreFault};
 use cx_base::{ClauseRef, Lit, LitList, LogEvent, Row};
 use cx_trail::Reason;
@@ -87,15 +88,15 @@ fn hinted_row<P: ParityEngine, L: Sink<Item = LogEvent>>(
     engine: &P,
     row: Row,
     literal: Lit,
-    rows: &mut Vec<LitList>,
+    rows: &mut ToldRows,
 ) -> Result<Hinted, CoreFault>
-    requires ready { CanTellRow P.ParityEngine L.Sink log.old state.now engine.now rows.old.items }
+    requires ready { CanTellRow P.ParityEngine L.Sink log.old state.now engine.now rows.old }
     requires reason { IsReasonOf (P.state engine.now) state.now.trail.entries literal row }
     requires apart { IsFalse (assumes log.old.formula.now.constraints (negate literal)) }
-    ensures clause { IfOk result (IsNextRow state.now rows.old.items literal) }
-    ensures same { OnErr result (rows.new.items ≡ rows.old.items) }
-    ensures rows { IfOk result (λ h. rows.new.items ≡ rows.old.items ++ h.lits ∷ []) }
-    ensures stands_on { StandsOn P.ParityEngine L.Sink log.old log.new state.now engine.now rows.new.items result }
+    ensures clause { IfOk result (IsNextRow state.now rows.old literal) }
+    ensures same { OnErr result (rows.new ≡ rows.old) }
+    ensures rows { IfOk result (λ h. rows.new ≡ rows.old ++ h.lits ∷ []) }
+    ensures stands_on { StandsOn P.ParityEngine L.Sink log.old log.new state.now engine.now rows.new result }
 {
     let reason = reason_clause(log.alloc, engine, row, Some(literal), &state.trail)?;
     let id = next_ids(log.formula, state.next, rows).clause;
@@ -110,15 +111,15 @@ pub(crate) fn clause_of_reason<P: ParityEngine, L: Sink<Item = LogEvent>>(
     engine: &P,
     reason: Reason,
     literal: Lit,
-    rows: &mut Vec<LitList>,
+    rows: &mut ToldRows,
 ) -> Result<Hinted, CoreFault>
-    requires ready { CanTellRow P.ParityEngine L.Sink log.old state.now engine.now rows.old.items }
+    requires ready { CanTellRow P.ParityEngine L.Sink log.old state.now engine.now rows.old }
     requires reason { HasReason state.now.trail literal reason }
     requires apart { IsApartByRow log.old.formula.now.constraints reason literal }
-    ensures clause { IfOk result (IsHeldFor state.now rows.new.items literal) }
-    ensures grows { (clause : List Literal) (n : ℕ) → IsSourcedBy state.now rows.old.items clause n → IsSourcedBy state.now rows.new.items clause n }
-    ensures one { OnOk result (length rows.new.items ≤ length rows.old.items + 1) }
-    ensures stands_on { StandsOn P.ParityEngine L.Sink log.old log.new state.now engine.now rows.new.items result }
+    ensures clause { IfOk result (IsHeldFor state.now rows.new literal) }
+    ensures grows { (clause : List Literal) (n : ℕ) → IsSourcedBy state.now rows.old clause n → IsSourcedBy state.now rows.new clause n }
+    ensures one { OnOk result (length rows.new ≤ length rows.old + 1) }
+    ensures stands_on { StandsOn P.ParityEngine L.Sink log.old log.new state.now engine.now rows.new result }
 {
     let place = state.trail.place_of(literal.negate());
     if place < state.units.len() {
@@ -140,7 +141,7 @@ pub struct Source<'a, 'b, P, L> {
     pub state: &'a SearchState,
     pub engine: &'a P,
     /// The clauses of rows that were told since the last mark, in the order of their ids.
-    pub rows: &'a mut Vec<LitList>,
+    pub rows: &'a mut ToldRows,
     /// No literal of the trail below this place that a row implied contradicts an assumed one.
     pub below: usize,
 }
@@ -148,12 +149,12 @@ pub struct Source<'a, 'b, P, L> {
 impl<P: ParityEngine, L: Sink<Item = LogEvent>> Antecedents for Source<'_, '_, P, L> {
     ghost trail = { λ a. a.state.now.trail };
 
-    ghost holds = { λ a c n. IsSourcedBy a.state.now a.rows.now.items c n };
+    ghost holds = { λ a c n. IsSourcedBy a.state.now a.rows.now c n };
 
-    ghost ready = { λ a. SearchStands a.log.now.formula.now a.state.now (P.state a.engine.now) a.rows.now.items (L.items a.log.now.sink.now)
+    ghost ready = { λ a. SearchStands a.log.now.formula.now a.state.now (P.state a.engine.now) a.rows.now (L.items a.log.now.sink.now)
         × RowsAreApart a.log.now.formula.now.constraints a.state.now.trail a.below × HasNotFailed L.Sink a.log.now };
 
-    ghost room = { λ a. a.log.now.formula.now.variables + 1 - length a.rows.now.items };
+    ghost room = { λ a. a.log.now.formula.now.variables + 1 - length a.rows.now };
 
     ghost reach = { λ a. a.below };
 

@@ -14,8 +14,9 @@ use crate::deleting::delete_rows;
 use crate::logs::SearchLog;
 use crate::source::{Hinted, clause_of_reason};
 use crate::state::SearchState;
+use crate::told_rows::ToldRows;
 use conflict_learn::CoreFault;
-use cx_base::{Lit, LitList, LogEvent};
+use cx_base::{Lit, LogEvent};
 use parity_engine::ParityEngine;
 use search_policy::Assumptions;
 use step_text::Sink;
@@ -27,7 +28,7 @@ fn tell_unit<P: ParityEngine, L: Sink<Item = LogEvent>>(
     engine: &P,
     literal: Lit,
     implying: &Hinted,
-    rows: &[LitList],
+    rows: &ToldRows,
 ) -> Result<(), CoreFault>
     requires stands { Stands P.ParityEngine L.Sink log.old state.old engine.now rows.now }
     requires going { HasNotFailed L.Sink log.old }
@@ -62,7 +63,7 @@ fn tell_next_unit<P: ParityEngine, L: Sink<Item = LogEvent>>(
     ensures same { HasOther state.old state.new }
 {
     let entry = state.trail.entry(state.units.len());
-    let mut rows = Vec::new(log.alloc);
+    let mut rows = ToldRows::new();
     let implying = clause_of_reason(log, state, engine, entry.reason, entry.literal, &mut rows)?;
     tell_unit(log, state, engine, entry.literal, &implying, &rows)?;
     delete_rows(log, state, engine, &rows)

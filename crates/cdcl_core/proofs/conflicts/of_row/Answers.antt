@@ -61,7 +61,7 @@ returns-in-Ok g c =
     record {
       concludes = (
         c.in-Ok.ensures.stands,
-        row_is_against c.args.log.now.formula.now c.args.state.now (g.P.ParityEngine.state c.args.engine.now) (g.L.Sink.items c.args.log.now.sink.now) c.requires.stands c.args.row c.args.kept c.requires.row c.in_ok-reason.reason c.in_ok-reason.ensures.parity c.in_ok-reason.ensures.numbers c.in_ok-reason.ensures.sum c.in_ok-reason.ensures.clause k.rows.items k.lits k.id told.lits told.id told.rows,
+        row_is_against c.args.log.now.formula.now c.args.state.now (g.P.ParityEngine.state c.args.engine.now) (g.L.Sink.items c.args.log.now.sink.now) c.requires.stands c.args.row c.args.kept c.requires.row c.in_ok-reason.reason c.in_ok-reason.ensures.parity c.in_ok-reason.ensures.numbers c.in_ok-reason.ensures.sum c.in_ok-reason.ensures.clause k.rows k.lits k.id told.lits told.id told.rows,
         told.told,
       );
       log = c.in-Ok.ensures.log;

@@ -5,17 +5,17 @@ use Rattle.cdcl_core.proofs.conflicts.told_row.Goals as goal
 
 pub tell_reason-requires-clause-stands : goal.tell_reason-requires-clause-stands
 tell_reason-requires-clause-stands g c =
-    subst (λ rows. SearchStands c.args.log.now.formula.now c.args.state.now (g.P.ParityEngine.state c.args.engine.now) rows (g.L.Sink.items c.args.log.now.sink.now)) (sym c.new-rows.ensures.items) c.requires.stands
+    subst (λ rows. SearchStands c.args.log.now.formula.now c.args.state.now (g.P.ParityEngine.state c.args.engine.now) rows (g.L.Sink.items c.args.log.now.sink.now)) (sym c.new-rows.ensures) c.requires.stands
 
 pub tell_reason-requires-clause-room : goal.tell_reason-requires-clause-room
-tell_reason-requires-clause-room g c = let none = ap length c.new-rows.ensures.items in omega (arith, none)
+tell_reason-requires-clause-room g c = let none = ap length c.new-rows.ensures in omega (arith, none)
 
 pub first_id_of_rows-requires : goal.first_id_of_rows-requires
 first_id_of_rows-requires g c = next_is_id c.args.log.now.formula.now c.args.state.now (g.P.ParityEngine.state c.args.engine.now) _ [] c.requires.stands.0 c.requires.stands.3
 
 pub returns-in-Ok-clause-told : goal.returns-in-Ok-clause-told
 returns-in-Ok-clause-told g c =
-    let rows = c.in-Ok.ensures.rows ∙ ap (λ rows. rows ++ c.args.reason.clause ∷ []) c.new-rows.ensures.items in
+    let rows = c.in-Ok.ensures.rows ∙ ap (λ rows. rows ++ c.args.reason.clause ∷ []) c.new-rows.ensures in
     record {
       lits = c.in-Ok.ensures.clause;
       id = c.first_id_of_rows.ensures;

@@ -21,7 +21,7 @@ trace-requires-clause-fails g c = (c.args.failure.conflict.id, c.requires.fails)
 
 pub hints_of_lesson-requires-clause-ids : goal.hints_of_lesson-requires-clause-ids
 hints_of_lesson-requires-clause-ids g c = subst (λ rs. (r : Resolved) → Contains rs r → IsId r.id) (sym c.deref.ensures.value)
-    (resolved_ids c.trace.new.log.formula.now c.args.state.now (g.P.ParityEngine.state c.args.engine.now) c.trace.new.rows.items (g.L.Sink.items c.trace.new.log.sink.now) c.in_ok-left.ensures.on.stands c.args.failure.conflict.lits c.in_ok-left.left.resolved.items c.in_ok-left.left.lits
+    (resolved_ids c.trace.new.log.formula.now c.args.state.now (g.P.ParityEngine.state c.args.engine.now) c.trace.new.rows (g.L.Sink.items c.trace.new.log.sink.now) c.in_ok-left.ensures.on.stands c.args.failure.conflict.lits c.in_ok-left.left.resolved.items c.in_ok-left.left.lits
     (c.in_ok-left.ensures.left c.args.failure.conflict.id c.requires.fails).final.follows)
 
 pub tell_chained-requires-clause-going : goal.tell_chained-requires-clause-going
@@ -30,11 +30,11 @@ tell_chained-requires-clause-going g c = c.in_ok-left.ensures.on.log.failed ∙ 
 pub tell_chained-requires-clause-right : goal.tell_chained-requires-clause-right
 tell_chained-requires-clause-right g c =
     subst (λ (ls : List Literal). IsLeft c.trace.new.log.formula.now (with_events (Step (ClauseWithHints c.args.state.now.next (integers_of ls) c.in_ok-hints.hints) ∷ []) (g.L.Sink.items c.trace.new.log.sink.now))) (sym c.as_slice-clause.ensures)
-    (ended_is_left c.args.state.now.tidies c.trace.new.log.formula.now c.args.state.now.conflicts (negations c.in_ok-left.left.lits) _ (left_is_told c.trace.new.log.formula.now c.args.state.now (g.P.ParityEngine.state c.args.engine.now) c.trace.new.rows.items (g.L.Sink.items c.trace.new.log.sink.now) c.in_ok-left.ensures.on.stands c.args.failure.conflict.lits c.args.failure.conflict.id c.args.failure.kept c.args.failure.below c.in_ok-left.left (c.in_ok-left.ensures.left c.args.failure.conflict.id c.requires.fails) c.in_ok-hints.hints (c.in_ok-hints.ensures ∙ ap (λ rs. hints_from rs ++ pos c.args.failure.conflict.id ∷ []) c.deref.ensures.value)))
+    (ended_is_left c.args.state.now.tidies c.trace.new.log.formula.now c.args.state.now.conflicts (negations c.in_ok-left.left.lits) _ (left_is_told c.trace.new.log.formula.now c.args.state.now (g.P.ParityEngine.state c.args.engine.now) c.trace.new.rows (g.L.Sink.items c.trace.new.log.sink.now) c.in_ok-left.ensures.on.stands c.args.failure.conflict.lits c.args.failure.conflict.id c.args.failure.kept c.args.failure.below c.in_ok-left.left (c.in_ok-left.ensures.left c.args.failure.conflict.id c.requires.fails) c.in_ok-hints.hints (c.in_ok-hints.ensures ∙ ap (λ rs. hints_from rs ++ pos c.args.failure.conflict.id ∷ []) c.deref.ensures.value)))
 
 pub returns-clause-none : goal.returns-clause-none
 returns-clause-none g c = λ kept level. c.in_ok-failed.ensures ∙ ap negations c.as_slice-clause.ensures
-    ∙ none_left c.trace.new.log.formula.now.constraints c.args.state.now c.args.failure.conflict.lits c.args.failure.conflict.id c.args.failure.kept c.args.failure.below c.trace.new.rows.items c.in_ok-left.left (c.in_ok-left.ensures.left c.args.failure.conflict.id c.requires.fails) c.in_ok-left.ensures.on.stands.3.trail.follows.sound kept level
+    ∙ none_left c.trace.new.log.formula.now.constraints c.args.state.now c.args.failure.conflict.lits c.args.failure.conflict.id c.args.failure.kept c.args.failure.below c.trace.new.rows c.in_ok-left.left (c.in_ok-left.ensures.left c.args.failure.conflict.id c.requires.fails) c.in_ok-left.ensures.on.stands.3.trail.follows.sound kept level
 
 pub returns-clause-ends : goal.returns-clause-ends
 returns-clause-ends g c =
@@ -44,7 +44,7 @@ returns-clause-ends g c =
           c.tell_chained.new.log c.in_ok-tell_chained.ensures.log c.in_ok-tell_chained.ensures.told
           (subst (λ (ls : List Literal). RefutesIn c.args.state.now.tidies c.trace.new.log.formula.now (c.args.state.now.conflicts + 1) (with_events (Step (ClauseWithHints c.args.state.now.next (integers_of ls) c.in_ok-hints.hints) ∷ []) (g.L.Sink.items c.trace.new.log.sink.now)) c.in_ok-failed.failed) (sym c.as_slice-clause.ensures)
           (subst (RefutesIn c.args.state.now.tidies c.trace.new.log.formula.now (c.args.state.now.conflicts + 1) (with_events (Step (ClauseWithHints c.args.state.now.next (integers_of c.in_ok-left.left.lits) c.in_ok-hints.hints) ∷ []) (g.L.Sink.items c.trace.new.log.sink.now))) (sym failed)
-          (ends_refute c.args.state.now.tidies c.trace.new.log.formula.now c.args.state.now.conflicts (negations c.in_ok-left.left.lits) _ (left_is_unmet c.trace.new.log.formula.now c.args.state.now (g.P.ParityEngine.state c.args.engine.now) c.trace.new.rows.items (g.L.Sink.items c.trace.new.log.sink.now) c.in_ok-left.ensures.on.stands c.args.failure.conflict.lits c.args.failure.conflict.id c.args.failure.kept c.args.failure.below c.in_ok-left.left (c.in_ok-left.ensures.left c.args.failure.conflict.id c.requires.fails) c.in_ok-hints.hints (c.in_ok-hints.ensures ∙ ap (λ rs. hints_from rs ++ pos c.args.failure.conflict.id ∷ []) c.deref.ensures.value)) (left_fails c.trace.new.log.formula.now c.args.state.now (g.P.ParityEngine.state c.args.engine.now) c.trace.new.rows.items (g.L.Sink.items c.trace.new.log.sink.now) c.in_ok-left.ensures.on.stands c.args.failure.conflict.lits c.args.failure.conflict.id c.args.failure.kept c.args.failure.below c.in_ok-left.left (c.in_ok-left.ensures.left c.args.failure.conflict.id c.requires.fails) c.in_ok-hints.hints (c.in_ok-hints.ensures ∙ ap (λ rs. hints_from rs ++ pos c.args.failure.conflict.id ∷ []) c.deref.ensures.value)) c.in_ok-left.ensures.on.stands.1.log.apart (left_is_told c.trace.new.log.formula.now c.args.state.now (g.P.ParityEngine.state c.args.engine.now) c.trace.new.rows.items (g.L.Sink.items c.trace.new.log.sink.now) c.in_ok-left.ensures.on.stands c.args.failure.conflict.lits c.args.failure.conflict.id c.args.failure.kept c.args.failure.below c.in_ok-left.left (c.in_ok-left.ensures.left c.args.failure.conflict.id c.requires.fails) c.in_ok-hints.hints (c.in_ok-hints.ensures ∙ ap (λ rs. hints_from rs ++ pos c.args.failure.conflict.id ∷ []) c.deref.ensures.value)))));
+          (ends_refute c.args.state.now.tidies c.trace.new.log.formula.now c.args.state.now.conflicts (negations c.in_ok-left.left.lits) _ (left_is_unmet c.trace.new.log.formula.now c.args.state.now (g.P.ParityEngine.state c.args.engine.now) c.trace.new.rows (g.L.Sink.items c.trace.new.log.sink.now) c.in_ok-left.ensures.on.stands c.args.failure.conflict.lits c.args.failure.conflict.id c.args.failure.kept c.args.failure.below c.in_ok-left.left (c.in_ok-left.ensures.left c.args.failure.conflict.id c.requires.fails) c.in_ok-hints.hints (c.in_ok-hints.ensures ∙ ap (λ rs. hints_from rs ++ pos c.args.failure.conflict.id ∷ []) c.deref.ensures.value)) (left_fails c.trace.new.log.formula.now c.args.state.now (g.P.ParityEngine.state c.args.engine.now) c.trace.new.rows (g.L.Sink.items c.trace.new.log.sink.now) c.in_ok-left.ensures.on.stands c.args.failure.conflict.lits c.args.failure.conflict.id c.args.failure.kept c.args.failure.below c.in_ok-left.left (c.in_ok-left.ensures.left c.args.failure.conflict.id c.requires.fails) c.in_ok-hints.hints (c.in_ok-hints.ensures ∙ ap (λ rs. hints_from rs ++ pos c.args.failure.conflict.id ∷ []) c.deref.ensures.value)) c.in_ok-left.ensures.on.stands.1.log.apart (left_is_told c.trace.new.log.formula.now c.args.state.now (g.P.ParityEngine.state c.args.engine.now) c.trace.new.rows (g.L.Sink.items c.trace.new.log.sink.now) c.in_ok-left.ensures.on.stands c.args.failure.conflict.lits c.args.failure.conflict.id c.args.failure.kept c.args.failure.below c.in_ok-left.left (c.in_ok-left.ensures.left c.args.failure.conflict.id c.requires.fails) c.in_ok-hints.hints (c.in_ok-hints.ensures ∙ ap (λ rs. hints_from rs ++ pos c.args.failure.conflict.id ∷ []) c.deref.ensures.value)))));
       log = log_then g.L.Sink g.met.L.Sink.keeps_on _ c.trace.new.log _ _ c.in_ok-left.ensures.on.log c.in_ok-tell_chained.ensures.log;
     }
 

@@ -18,36 +18,36 @@ use Rattle.cdcl_core.proofs.learning.tell_learned.Goals as goal
 
 pub tell_round-requires-clause-right : goal.tell_round-requires-clause-right
 tell_round-requires-clause-right g c =
-    let count : c.len.result ≡ length c.args.conflict.now.rows.items = (let is = c.len.ensures in omega (arith, is)) in
+    let count : c.len.result ≡ length c.args.conflict.now.rows = (let is = c.len.ensures in omega (arith, is)) in
     learned_is_left _ c.args.state.now (g.P.ParityEngine.state c.args.engine.now) c.args.learned.now.lits c.args.learned.now.back_level _
-    (learns_then c.args.log.now.formula.now c.args.state.now (g.P.ParityEngine.state c.args.engine.now) c.args.conflict.now.rows.items (g.L.Sink.items c.args.log.now.sink.now) c.requires.at.stands
-    c.requires.at.above (next_is_id c.args.log.now.formula.now c.args.state.now (g.P.ParityEngine.state c.args.engine.now) _ c.args.conflict.now.rows.items c.requires.at.stands.0 c.requires.at.stands.3).1 c.requires.may.few c.args.conflict.now.lits c.args.conflict.now.id c.requires.at.conflict c.args.learned.now.resolved.items c.args.learned.now.lits c.args.learned.now.back_level c.args.learned.now.lbd c.requires.lesson.teaches c.requires.may.free
+    (learns_then c.args.log.now.formula.now c.args.state.now (g.P.ParityEngine.state c.args.engine.now) c.args.conflict.now.rows (g.L.Sink.items c.args.log.now.sink.now) c.requires.at.stands
+    c.requires.at.above (next_is_id c.args.log.now.formula.now c.args.state.now (g.P.ParityEngine.state c.args.engine.now) _ c.args.conflict.now.rows c.requires.at.stands.0 c.requires.at.stands.3).1 c.requires.may.few c.args.conflict.now.lits c.args.conflict.now.id c.requires.at.conflict c.args.learned.now.resolved.items c.args.learned.now.lits c.args.learned.now.back_level c.args.learned.now.lbd c.requires.lesson.teaches c.requires.may.free
     (subst (λ xs. literals (integers_of xs) ≡ xs) c.as_slice.ensures c.in_ok-steps.ensures.literals) c.in_ok-hints.hints (c.in_ok-hints.ensures ∙ ap (λ rs. hints_from rs ++ pos c.args.conflict.now.id ∷ []) c.deref.ensures.value) c.in_ok-steps.steps.items
     (c.in_ok-steps.ensures.steps.are ∙ (λ i. Step (step.ClauseWithHints c.args.state.now.next (integers_of (c.as_slice.ensures i)) c.in_ok-hints.hints) ∷ deletions (row_ids (first_row_id c.args.state.now.next) (count i))))
     _ refl)
 
 pub returns-clause-learned : goal.returns-clause-learned
 returns-clause-learned g c =
-    let count : c.len.result ≡ length c.args.conflict.now.rows.items = (let is = c.len.ensures in omega (arith, is)) in
+    let count : c.len.result ≡ length c.args.conflict.now.rows = (let is = c.len.ensures in omega (arith, is)) in
     holds_where (λ formula told. Learns formula c.args.state.now (g.P.ParityEngine.state c.args.engine.now) c.args.learned.now.lits c.args.learned.now.back_level told) (Conflict (c.args.state.now.conflicts + 1) ∷ as_events c.in_ok-steps.steps.items)
     g.L.Sink c.args.log.now _ c.tell_round.result c.tell_round.new.log c.tell_round.ensures.log c.tell_round.ensures.told
-    (learns_then c.args.log.now.formula.now c.args.state.now (g.P.ParityEngine.state c.args.engine.now) c.args.conflict.now.rows.items (g.L.Sink.items c.args.log.now.sink.now) c.requires.at.stands
-    c.requires.at.above (next_is_id c.args.log.now.formula.now c.args.state.now (g.P.ParityEngine.state c.args.engine.now) _ c.args.conflict.now.rows.items c.requires.at.stands.0 c.requires.at.stands.3).1 c.requires.may.few c.args.conflict.now.lits c.args.conflict.now.id c.requires.at.conflict c.args.learned.now.resolved.items c.args.learned.now.lits c.args.learned.now.back_level c.args.learned.now.lbd c.requires.lesson.teaches c.requires.may.free
+    (learns_then c.args.log.now.formula.now c.args.state.now (g.P.ParityEngine.state c.args.engine.now) c.args.conflict.now.rows (g.L.Sink.items c.args.log.now.sink.now) c.requires.at.stands
+    c.requires.at.above (next_is_id c.args.log.now.formula.now c.args.state.now (g.P.ParityEngine.state c.args.engine.now) _ c.args.conflict.now.rows c.requires.at.stands.0 c.requires.at.stands.3).1 c.requires.may.few c.args.conflict.now.lits c.args.conflict.now.id c.requires.at.conflict c.args.learned.now.resolved.items c.args.learned.now.lits c.args.learned.now.back_level c.args.learned.now.lbd c.requires.lesson.teaches c.requires.may.free
     (subst (λ xs. literals (integers_of xs) ≡ xs) c.as_slice.ensures c.in_ok-steps.ensures.literals) c.in_ok-hints.hints (c.in_ok-hints.ensures ∙ ap (λ rs. hints_from rs ++ pos c.args.conflict.now.id ∷ []) c.deref.ensures.value) c.in_ok-steps.steps.items
     (c.in_ok-steps.ensures.steps.are ∙ (λ i. Step (step.ClauseWithHints c.args.state.now.next (integers_of (c.as_slice.ensures i)) c.in_ok-hints.hints) ∷ deletions (row_ids (first_row_id c.args.state.now.next) (count i))))
     _ refl)
 
 pub steps_of_learned-requires-clause-id : goal.steps_of_learned-requires-clause-id
-steps_of_learned-requires-clause-id g c = (has_ids c.args.log.now.formula.now c.args.state.now (g.P.ParityEngine.state c.args.engine.now) c.args.conflict.now.rows.items (g.L.Sink.items c.args.log.now.sink.now) c.requires.at.stands).next
+steps_of_learned-requires-clause-id g c = (has_ids c.args.log.now.formula.now c.args.state.now (g.P.ParityEngine.state c.args.engine.now) c.args.conflict.now.rows (g.L.Sink.items c.args.log.now.sink.now) c.requires.at.stands).next
 
 pub steps_of_learned-requires-clause-rows : goal.steps_of_learned-requires-clause-rows
 steps_of_learned-requires-clause-rows g c =
-    let count : length c.args.conflict.now.rows.items ≡ c.len.result = (let is = c.len.ensures in omega (arith, is)) in
-    subst (AreIdsFrom (first_row_id c.args.state.now.next)) count (row_ids_are_ids c.args.log.now.formula.now c.args.state.now (g.P.ParityEngine.state c.args.engine.now) _ c.args.conflict.now.rows.items c.requires.at.stands.0 c.requires.at.stands.3 (omega arith))
+    let count : length c.args.conflict.now.rows ≡ c.len.result = (let is = c.len.ensures in omega (arith, is)) in
+    subst (AreIdsFrom (first_row_id c.args.state.now.next)) count (row_ids_are_ids c.args.log.now.formula.now c.args.state.now (g.P.ParityEngine.state c.args.engine.now) _ c.args.conflict.now.rows c.requires.at.stands.0 c.requires.at.stands.3 (omega arith))
 
 pub hints_of_lesson-requires-clause-ids : goal.hints_of_lesson-requires-clause-ids
 hints_of_lesson-requires-clause-ids g c = subst (λ rs. (r : Resolved) → Contains rs r → IsId r.id) (sym c.deref.ensures.value)
-    (resolved_ids c.args.log.now.formula.now c.args.state.now (g.P.ParityEngine.state c.args.engine.now) c.args.conflict.now.rows.items (g.L.Sink.items c.args.log.now.sink.now) c.requires.at.stands c.args.conflict.now.lits c.args.learned.now.resolved.items c.args.learned.now.lits c.requires.lesson.teaches.learned.follows)
+    (resolved_ids c.args.log.now.formula.now c.args.state.now (g.P.ParityEngine.state c.args.engine.now) c.args.conflict.now.rows (g.L.Sink.items c.args.log.now.sink.now) c.requires.at.stands c.args.conflict.now.lits c.args.learned.now.resolved.items c.args.learned.now.lits c.requires.lesson.teaches.learned.follows)
 
 pub tell_round-requires-clause-texts : goal.tell_round-requires-clause-texts
 tell_round-requires-clause-texts g c = c.in_ok-steps.ensures.steps.texts

@@ -1,11 +1,9 @@
-use Rattle.std.proofs.Common.{refl, sym, subst, arith, ◌++◌, ◌∷◌, [], length}
+use Rattle.std.proofs.Common.{refl, arith, ◌++◌, ◌∷◌, []}
 use Rattle.cx_base.specs.Integers.{integers_of}
 use Rattle.search_steps.specs.LogSteps.{row_events}
-use Rattle.cdcl_search.specs.Ties.{SearchStands, first_row_id}
-use Rattle.cdcl_search.specs.Tells.{AreIdsFrom}
+use Rattle.cdcl_search.specs.Ties.{SearchStands}
 use Rattle.std.proofs.lemmas.Result.{err_from_is_err_and}
-use Rattle.cdcl_search.specs.GoingOn.{log_stops, log_then}
-use Rattle.cdcl_search.proofs.LowIds.{next_is_id, row_ids_are_ids}
+use Rattle.cdcl_search.proofs.LowIds.{next_is_id, row_ids_are_ids, variables_are_few}
 use Rattle.cdcl_search.proofs.RowSteps.{are_tellable, left_now, sources_are, stands_then}
 use Rattle.cdcl_search.proofs.Tellings.{holds_told}
 use Rattle.cdcl_search.proofs.rows.tell_reason.Goals as goal
@@ -13,57 +11,42 @@ use Rattle.cdcl_search.proofs.rows.tell_reason.Goals as goal
 pub next_ids-ids-requires-clause-few : goal.next_ids-ids-requires-clause-few
 next_ids-ids-requires-clause-few g c = record {
   constraints_few = c.requires.stands.3.ids.few;
-  room = subst (λ rows. AreIdsFrom (first_row_id c.args.state.now.next) (length rows)) (sym c.deref.ensures.value)
-      (row_ids_are_ids c.args.log.now.formula.now c.args.state.now (g.P.ParityEngine.state c.args.engine.now) _ c.args.rows.now.items c.requires.stands.0 c.requires.stands.3 (omega arith));
+  room = row_ids_are_ids c.args.log.now.formula.now c.args.state.now (g.P.ParityEngine.state c.args.engine.now) _ c.args.rows.now c.requires.stands.0 c.requires.stands.3 (omega arith);
 }
 
 pub next_ids-ids-requires-clause-next : goal.next_ids-ids-requires-clause-next
-next_ids-ids-requires-clause-next g c = next_is_id c.args.log.now.formula.now c.args.state.now (g.P.ParityEngine.state c.args.engine.now) _ c.args.rows.now.items c.requires.stands.0 c.requires.stands.3
+next_ids-ids-requires-clause-next g c = next_is_id c.args.log.now.formula.now c.args.state.now (g.P.ParityEngine.state c.args.engine.now) _ c.args.rows.now c.requires.stands.0 c.requires.stands.3
 
 pub tell_row-requires-clause-proper : goal.tell_row-requires-clause-proper
 tell_row-requires-clause-proper g c = c.next_ids-ids.ensures.proper
 
 pub tell_row-requires-clause-sources : goal.tell_row-requires-clause-sources
-tell_row-requires-clause-sources g c = sources_are c.args.log.now.formula.now c.args.state.now (g.P.ParityEngine.state c.args.engine.now) c.args.rows.now.items (g.L.Sink.items c.args.log.now.sink.now) c.requires.stands
+tell_row-requires-clause-sources g c = sources_are c.args.log.now.formula.now c.args.state.now (g.P.ParityEngine.state c.args.engine.now) c.args.rows.now (g.L.Sink.items c.args.log.now.sink.now) c.requires.stands
     c.args.reason c.requires.explains
 
 pub tell_row-requires-clause-steps : goal.tell_row-requires-clause-steps
-tell_row-requires-clause-steps g c = are_tellable c.args.log.now.formula.now c.args.state.now (g.P.ParityEngine.state c.args.engine.now) c.args.rows.now.items (g.L.Sink.items c.args.log.now.sink.now) c.requires.stands
-    c.args.reason c.requires.explains c.requires.goes_on c.requires.room c.deref.result.now c.deref.ensures.value c.next_ids-ids.result c.next_ids-ids.ensures
+tell_row-requires-clause-steps g c = are_tellable c.args.log.now.formula.now c.args.state.now (g.P.ParityEngine.state c.args.engine.now) c.args.rows.now (g.L.Sink.items c.args.log.now.sink.now) c.requires.stands
+    c.args.reason c.requires.explains c.requires.goes_on c.requires.room c.next_ids-ids.result c.next_ids-ids.ensures
 
 pub tell_row-requires-clause-right : goal.tell_row-requires-clause-right
-tell_row-requires-clause-right g c = left_now c.args.log.now.formula.now c.args.state.now (g.P.ParityEngine.state c.args.engine.now) _ _ (stands_then c.args.log.now.formula.now c.args.state.now (g.P.ParityEngine.state c.args.engine.now) c.args.rows.now.items (g.L.Sink.items c.args.log.now.sink.now) c.requires.stands
-    c.args.reason c.requires.explains c.requires.goes_on c.requires.room c.deref.result.now c.deref.ensures.value c.next_ids-ids.result c.next_ids-ids.ensures _ refl)
+tell_row-requires-clause-right g c = left_now c.args.log.now.formula.now c.args.state.now (g.P.ParityEngine.state c.args.engine.now) _ _ (stands_then c.args.log.now.formula.now c.args.state.now (g.P.ParityEngine.state c.args.engine.now) c.args.rows.now (g.L.Sink.items c.args.log.now.sink.now) c.requires.stands
+    c.args.reason c.requires.explains c.requires.goes_on c.requires.room c.next_ids-ids.result c.next_ids-ids.ensures _ refl)
+
+pub push-requires : goal.push-requires
+push-requires g c =
+    let few = variables_are_few c.args.log.now.formula.now c.args.state.now (g.P.ParityEngine.state c.args.engine.now) _ c.args.rows.now c.requires.stands.0 c.requires.stands.3 in
+    let room = c.requires.room in
+    omega (arith, few, room)
 
 pub returns-clause-stands_on : goal.returns-clause-stands_on
 returns-clause-stands_on g c =
     let events = row_events c.next_ids-ids.result.sum (integers_of c.args.reason.parity) c.args.reason.sources c.next_ids-ids.result.clause (integers_of c.args.reason.clause) in
-    let stands = holds_told (λ formula told. SearchStands formula c.args.state.now (g.P.ParityEngine.state c.args.engine.now) (c.args.rows.now.items ++ c.args.reason.clause ∷ []) told) events g.L.Sink c.args.log.now _ c.tell_row.new.log c.tell_row.ensures.log c.in_ok-tell_row.ensures.told
-    (stands_then c.args.log.now.formula.now c.args.state.now (g.P.ParityEngine.state c.args.engine.now) c.args.rows.now.items (g.L.Sink.items c.args.log.now.sink.now) c.requires.stands
-    c.args.reason c.requires.explains c.requires.goes_on c.requires.room c.deref.result.now c.deref.ensures.value c.next_ids-ids.result c.next_ids-ids.ensures _ refl) in
+    let stands = holds_told (λ formula told. SearchStands formula c.args.state.now (g.P.ParityEngine.state c.args.engine.now) (c.args.rows.now ++ c.args.reason.clause ∷ []) told) events g.L.Sink c.args.log.now _ c.tell_row.new.log c.tell_row.ensures.log c.in_ok-tell_row.ensures.told
+    (stands_then c.args.log.now.formula.now c.args.state.now (g.P.ParityEngine.state c.args.engine.now) c.args.rows.now (g.L.Sink.items c.args.log.now.sink.now) c.requires.stands
+    c.args.reason c.requires.explains c.requires.goes_on c.requires.room c.next_ids-ids.result c.next_ids-ids.ensures _ refl) in
     record { stands = stands; log = c.in_ok-tell_row.ensures.log }
 
 pub returns-in_err-tell_row : goal.returns-in_err-tell_row
 returns-in_err-tell_row g c =
     let fault = err_from_is_err_and c.from_residual.result c.from_residual.ensures.1 in
     rw (fault.1, fault.2) (record { clause = tt; same = refl; rows = tt; stands_on = record { stands = tt; log = c.in_err-tell_row.ensures.log } })
-
-pub returns-in_err-copy : goal.returns-in_err-copy
-returns-in_err-copy g c =
-    let fault = err_from_is_err_and c.from_residual-in_err-copy.result c.from_residual-in_err-copy.ensures.1 in
-    rw (fault.1, fault.2) (record {
-      clause = tt;
-      same = refl;
-      rows = tt;
-      stands_on = record { stands = tt; log = log_then g.L.Sink g.met.L.Sink.keeps_on _ c.tell_row.new.log _ _ c.in_ok-tell_row.ensures.log (log_stops g.L.Sink g.met.L.Sink.keeps_itself c.tell_row.new.log) };
-    })
-
-pub returns-in_err-push : goal.returns-in_err-push
-returns-in_err-push g c =
-    let fault = err_from_is_err_and c.from_residual-in_err-push.result c.from_residual-in_err-push.ensures.1 in
-    rw (fault.1, fault.2) (record {
-      clause = tt;
-      same = c.in_err-push.ensures.items;
-      rows = tt;
-      stands_on = record { stands = tt; log = log_then g.L.Sink g.met.L.Sink.keeps_on _ c.tell_row.new.log _ _ c.in_ok-tell_row.ensures.log (log_stops g.L.Sink g.met.L.Sink.keeps_itself c.tell_row.new.log) };
-    })

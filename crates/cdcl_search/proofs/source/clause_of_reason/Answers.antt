@@ -11,10 +11,10 @@ use Rattle.cdcl_search.specs.GoingOn.{log_rests, log_stops}
 use Rattle.cdcl_search.proofs.source.clause_of_reason.Goals as goal
 
 pub unit-requires-clause-ids : goal.unit-requires-clause-ids
-unit-requires-clause-ids g c = has_ids c.args.log.now.formula.now c.args.state.now (g.P.ParityEngine.state c.args.engine.now) c.args.rows.now.items (g.L.Sink.items c.args.log.now.sink.now) c.requires.ready.stands
+unit-requires-clause-ids g c = has_ids c.args.log.now.formula.now c.args.state.now (g.P.ParityEngine.state c.args.engine.now) c.args.rows.now (g.L.Sink.items c.args.log.now.sink.now) c.requires.ready.stands
 
 pub stored-requires-clause-ids : goal.stored-requires-clause-ids
-stored-requires-clause-ids g c = has_ids c.args.log.now.formula.now c.args.state.now (g.P.ParityEngine.state c.args.engine.now) c.args.rows.now.items (g.L.Sink.items c.args.log.now.sink.now) c.requires.ready.stands
+stored-requires-clause-ids g c = has_ids c.args.log.now.formula.now c.args.state.now (g.P.ParityEngine.state c.args.engine.now) c.args.rows.now (g.L.Sink.items c.args.log.now.sink.now) c.requires.ready.stands
 
 pub hinted_row-requires-clause-reason : goal.hinted_row-requires-clause-reason
 hinted_row-requires-clause-reason g c =
@@ -24,10 +24,10 @@ hinted_row-requires-clause-reason g c =
     (c.place_of-place.ensures.negated ∙ ap Rattle.cx_base.specs.Literals.negate c.negate.ensures) (omega (arith, low, is)) c.in-Row.row (subst (HasReason c.args.state.now.trail c.args.literal) c.in-Row.is c.requires.reason)
 
 pub returns-in-Row-clause-grows : goal.returns-in-Row-clause-grows
-returns-in-Row-clause-grows g c = sourced_grows c.args.state.now c.args.rows.now.items c.hinted_row.new.rows.items (λ (h : Hinted). h.lits) c.hinted_row.result c.hinted_row.ensures.rows c.hinted_row.ensures.same
+returns-in-Row-clause-grows g c = sourced_grows c.args.state.now c.args.rows.now c.hinted_row.new.rows (λ (h : Hinted). h.lits) c.hinted_row.result c.hinted_row.ensures.rows c.hinted_row.ensures.same
 
 pub returns-in-Row-clause-one : goal.returns-in-Row-clause-one
-returns-in-Row-clause-one g c = one_more c.args.state.now c.args.rows.now.items c.hinted_row.new.rows.items (λ (h : Hinted). h.lits) c.hinted_row.result c.hinted_row.ensures.rows
+returns-in-Row-clause-one g c = one_more c.args.state.now c.args.rows.now c.hinted_row.new.rows (λ (h : Hinted). h.lits) c.hinted_row.result c.hinted_row.ensures.rows
 
 pub returns-then-place-len-clause-stands_on : goal.returns-then-place-len-clause-stands_on
 returns-then-place-len-clause-stands_on g c = record { stands = c.requires.ready.stands; log = log_rests g.L.Sink g.met.L.Sink.keeps_itself c.args.log.now }
@@ -110,5 +110,5 @@ pub returns-in-Row-clause-clause : goal.returns-in-Row-clause-clause
 returns-in-Row-clause-clause g c =
     let r = c.hinted_row.result in
     let next = ok_maps r c.hinted_row.ensures.clause (λ h k. k.next) in
-    ok_both r (last_is_sourced c.args.state.now c.args.rows.now.items c.hinted_row.new.rows.items (λ (h : Hinted). h.lits) (λ (h : Hinted). h.id) r c.hinted_row.ensures.rows next) c.hinted_row.ensures.clause
+    ok_both r (last_is_sourced c.args.state.now c.args.rows.now c.hinted_row.new.rows (λ (h : Hinted). h.lits) (λ (h : Hinted). h.id) r c.hinted_row.ensures.rows next) c.hinted_row.ensures.clause
     (λ h sourced k. record { sourced = sourced; implied = k.implied; id = k.id })

@@ -35,7 +35,7 @@ returns-clause-clause g c = record {
 }
 
 pub returns-clause-rows : goal.returns-clause-rows
-returns-clause-rows g c = c.in_ok-lits.ensures.rows ∙ ap (λ x. c.args.rows.now.items ++ x ∷ []) (sym c.in_ok-lits.ensures.clause)
+returns-clause-rows g c = c.in_ok-lits.ensures.rows ∙ ap (λ x. c.args.rows.now ++ x ∷ []) (sym c.in_ok-lits.ensures.clause)
 
 pub returns-clause-stands_on : goal.returns-clause-stands_on
 returns-clause-stands_on g c =

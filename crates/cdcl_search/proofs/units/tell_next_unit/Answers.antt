@@ -6,16 +6,15 @@ use Rattle.cx_base.specs.declared.constraint.Constraint.{Constraint}
 use Rattle.cx_trail.specs.declared.entry.Entry.{Entry}
 use Rattle.std.proofs.lemmas.Result.{err_from_is_err_and}
 use Rattle.cx_trail.specs.Sequence.{entry_at}
-use Rattle.cdcl_search.specs.Ties.{SearchStands, SearchStandsFrom}
-use Rattle.cdcl_search.specs.Sources.{IsSourcedBy}
+use Rattle.cdcl_search.specs.Ties.{SearchStands}
 use Rattle.cdcl_search.specs.GoingOn.{log_then}
 use Rattle.cdcl_search.proofs.units.tell_next_unit.Goals as goal
 
 pub clause_of_reason-requires-clause-ready : goal.clause_of_reason-requires-clause-ready
 clause_of_reason-requires-clause-ready g c = record {
-  stands = subst (λ rows. SearchStands c.args.log.now.formula.now c.args.state.now (g.P.ParityEngine.state c.args.engine.now) rows (g.L.Sink.items c.args.log.now.sink.now)) (sym c.new-rows.ensures.items) c.requires.stands;
+  stands = subst (λ rows. SearchStands c.args.log.now.formula.now c.args.state.now (g.P.ParityEngine.state c.args.engine.now) rows (g.L.Sink.items c.args.log.now.sink.now)) (sym c.new-rows.ensures) c.requires.stands;
   going = c.requires.going;
-  room = let none = ap length c.new-rows.ensures.items in omega (arith, none);
+  room = let none = ap length c.new-rows.ensures in omega (arith, none);
 }
 
 here : (entries : List Entry) (units len : ℕ) (entry : Entry) (constraints : List Constraint) → units ≡ len → entry ≡ entry_at entries len → assumes constraints (negate (entry_at entries units).literal) ≡ false → assumes constraints (negate entry.literal) ≡ false
@@ -36,7 +35,7 @@ tell_unit-requires-clause-apart g c =
 
 pub tell_unit-requires-clause-stands : goal.tell_unit-requires-clause-stands
 tell_unit-requires-clause-stands g c =
-    subst (λ rows. SearchStands c.clause_of_reason.new.log.formula.now c.args.state.now (g.P.ParityEngine.state c.args.engine.now) rows (g.L.Sink.items c.clause_of_reason.new.log.sink.now)) (sym c.deref.ensures.value) c.in_ok-implying.ensures.stands_on.stands
+    c.in_ok-implying.ensures.stands_on.stands
 
 pub tell_unit-requires-clause-next : goal.tell_unit-requires-clause-next
 tell_unit-requires-clause-next g c =
@@ -45,7 +44,7 @@ tell_unit-requires-clause-next g c =
     let at : length c.args.state.now.units.items ≡ c.len.result = omega (arith, long, same) in
     record {
       next = (c.requires.more, ap (λ x. x.literal) (ap (entry_at c.args.state.now.trail.entries) at ∙ sym c.entry-entry.ensures.is));
-      sourced = subst (λ rows. IsSourcedBy c.args.state.now rows c.in_ok-implying.implying.lits c.in_ok-implying.implying.id) (sym c.deref.ensures.value) c.in_ok-implying.ensures.clause.sourced;
+      sourced = c.in_ok-implying.ensures.clause.sourced;
       implied = c.in_ok-implying.ensures.clause.implied;
       id = c.in_ok-implying.ensures.clause.id;
     }
@@ -58,14 +57,13 @@ delete_rows-requires-clause-going g c = c.in_ok-tell_unit.ensures.to_delete.log.
 
 pub delete_rows-requires-clause-stands : goal.delete_rows-requires-clause-stands
 delete_rows-requires-clause-stands g c =
-    subst (λ rows. SearchStandsFrom c.tell_unit.new.log.formula.now c.tell_unit.new.state (g.P.ParityEngine.state c.args.engine.now) c.tell_unit.new.state.next rows (g.L.Sink.items c.tell_unit.new.log.sink.now)) (c.deref.ensures.value ∙ sym c.deref-2.ensures.value) c.in_ok-tell_unit.ensures.to_delete.stands
+    c.in_ok-tell_unit.ensures.to_delete.stands
 
 pub delete_rows-requires-clause-few : goal.delete_rows-requires-clause-few
 delete_rows-requires-clause-few g c =
     let one = c.in_ok-implying.ensures.one in
-    let none = ap length c.new-rows.ensures.items in
-    let same = ap length c.deref-2.ensures.value in
-    omega (arith, one, none, same)
+    let none = ap length c.new-rows.ensures in
+    omega (arith, one, none)
 
 pub returns-in_err-implying-clause-stands_on : goal.returns-in_err-implying-clause-stands_on
 returns-in_err-implying-clause-stands_on g c =

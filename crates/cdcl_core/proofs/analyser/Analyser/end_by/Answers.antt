@@ -1,9 +1,13 @@
 use Rattle.std.proofs.lemmas.Result.{err_from_is_err_and}
-use Rattle.std.proofs.Common.{◌≡◌, refl, subst, length, arith}
+use Rattle.std.proofs.Common.{◌≡◌, refl, subst, ℕ, ℤ, List, length, arith}
 use Rattle.std.specs.Prelude.{IfOk}
+use Rattle.xor_reason.specs.declared.reason.ReasonOf.{ReasonOf}
 use Rattle.cdcl_search.specs.GoingOn.{log_stops}
+use Rattle.cdcl_search.specs.declared.state.SearchState.{SearchState}
 use Rattle.cdcl_search.specs.Ties.{first_row_id}
 use Rattle.cdcl_search.proofs.LowIds.{has_ids, next_is_low, variables_are_few}
+use Rattle.cdcl_core.specs.Shortening.{EndsByUnits}
+use Rattle.cdcl_core.specs.declared.conflicts.LogEnd.{LogEnd}
 use Rattle.cdcl_core.proofs.ShortLaws.{known_by, short_by}
 use Rattle.cdcl_core.proofs.RefutedLaws.{on_answer}
 use Rattle.cdcl_core.proofs.analyser.Analyser.end_by.Goals as goal
@@ -19,7 +23,8 @@ end_of_refuted-requires-clause-room g c =
     let st = c.requires.at.stands in
     let vars = variables_are_few c.args.self.now.log.now.formula.now c.args.self.now.state.now (g.P.ParityEngine.state c.args.self.now.engine.now) (first_row_id c.args.self.now.state.now.next) c.args.rows.now st.0 st.3 in
     let few = st.3.log.few_rows in
-    (next_is_low c.args.self.now.log.now.formula.now c.args.self.now.state.now (g.P.ParityEngine.state c.args.self.now.engine.now) (first_row_id c.args.self.now.state.now.next) c.args.rows.now st.0 st.3, omega (arith, vars, few))
+    let is = c.len-count.ensures in
+    (next_is_low c.args.self.now.log.now.formula.now c.args.self.now.state.now (g.P.ParityEngine.state c.args.self.now.engine.now) (first_row_id c.args.self.now.state.now.next) c.args.rows.now st.0 st.3, omega (arith, vars, few, is))
 
 pub end_of_refuted-requires-clause-units : goal.end_of_refuted-requires-clause-units
 end_of_refuted-requires-clause-units g c = c.requires.at.stands.3.units.few
@@ -36,13 +41,17 @@ end_of_refuted-requires-clause-sources g c = (length (g.P.ParityEngine.state c.a
 pub tell_ending-requires-clause-going : goal.tell_ending-requires-clause-going
 tell_ending-requires-clause-going g c = c.requires.at.going
 
+-- by the number of the rows, which is their length
+counted : (state : SearchState) (constraints count rows : ℕ) (reason : ReasonOf) (hints : List ℤ) (ending : LogEnd) → count ≡ rows → EndsByUnits state constraints count reason hints ending → EndsByUnits state constraints rows reason hints ending
+counted state constraints count rows reason hints ending same ends = subst (λ n. EndsByUnits state constraints n reason hints ending) same ends
+
 pub tell_ending-requires-clause-ends : goal.tell_ending-requires-clause-ends
-tell_ending-requires-clause-ends g c = c.requires.ends.ends c.in_ok-ending.ending c.in_ok-ending.ensures
+tell_ending-requires-clause-ends g c = c.requires.ends.ends c.in_ok-ending.ending (counted _ _ _ _ _ _ _ c.len-count.ensures c.in_ok-ending.ensures)
 
 pub returns : goal.returns
 returns g c = record {
   ends = c.tell_ending.ensures.ends;
-  none = subst (λ none. IfOk c.tell_ending.result (λ failed. failed ≡ none)) (c.requires.ends.none c.in_ok-ending.ending c.in_ok-ending.ensures) c.tell_ending.ensures.failed;
+  none = subst (λ none. IfOk c.tell_ending.result (λ failed. failed ≡ none)) (c.requires.ends.none c.in_ok-ending.ending (counted _ _ _ _ _ _ _ c.len-count.ensures c.in_ok-ending.ensures)) c.tell_ending.ensures.failed;
   clear = on_answer c.tell_ending.result c.requires.at.clear;
   lent = record { state = refl; engine = refl; log = refl; marks = refl };
 }

@@ -21,7 +21,7 @@ pub refute_told-requires-clause-conflict : goal.refute_told-requires-clause-conf
 refute_told-requires-clause-conflict g c =
     let k = c.in_ok-conflict.conflict in
     let told = c.in_ok-conflict.ensures.told in
-    told_conflict c.args.self.now.state.now k.rows.items k.lits k.id (g.P.ParityEngine.state c.args.self.now.engine.now).parities c.args.reason c.requires.reason told.lits told.rows told.id
+    told_conflict c.args.self.now.state.now k.rows k.lits k.id (g.P.ParityEngine.state c.args.self.now.engine.now).parities c.args.reason c.requires.reason told.lits told.rows told.id
 
 pub refute_told-requires-clause-told : goal.refute_told-requires-clause-told
 refute_told-requires-clause-told g c = c.in_ok-conflict.ensures.told.told
@@ -39,14 +39,14 @@ returns g c = record {
 
 pub refute_ending-requires-clause-at : goal.refute_ending-requires-clause-at
 refute_ending-requires-clause-at g c = record {
-  stands = subst (λ rows. SearchStands c.args.self.now.log.now.formula.now c.args.self.now.state.now (g.P.ParityEngine.state c.args.self.now.engine.now) rows (g.L.Sink.items c.args.self.now.log.now.sink.now)) (sym c.new-rows.ensures.items) c.requires.at.stands;
+  stands = subst (λ rows. SearchStands c.args.self.now.log.now.formula.now c.args.self.now.state.now (g.P.ParityEngine.state c.args.self.now.engine.now) rows (g.L.Sink.items c.args.self.now.log.now.sink.now)) (sym c.new-rows.ensures) c.requires.at.stands;
   level = c.requires.at.level;
   clear = c.requires.at.clear;
   going = c.requires.at.going;
 }
 
 pub refute_ending-requires-clause-rows : goal.refute_ending-requires-clause-rows
-refute_ending-requires-clause-rows g c = c.new-rows.ensures.items
+refute_ending-requires-clause-rows g c = c.new-rows.ensures
 
 pub refute_ending-requires-clause-first : goal.refute_ending-requires-clause-first
 refute_ending-requires-clause-first g c = c.requires.first

@@ -16,7 +16,7 @@ pub refute_by-requires-clause-conflict : goal.refute_by-requires-clause-conflict
 refute_by-requires-clause-conflict g c =
     let k = c.in_ok-conflict.conflict in
     let told = c.in_ok-conflict.ensures.told in
-    told_conflict c.args.self.now.state.now k.rows.items k.lits k.id (g.P.ParityEngine.state c.args.self.now.engine.now).parities c.in_ok-told.told c.in_ok-told.ensures.reason told.lits told.rows told.id
+    told_conflict c.args.self.now.state.now k.rows k.lits k.id (g.P.ParityEngine.state c.args.self.now.engine.now).parities c.in_ok-told.told c.in_ok-told.ensures.reason told.lits told.rows told.id
 
 pub refute_by-requires-clause-told : goal.refute_by-requires-clause-told
 refute_by-requires-clause-told g c = c.in_ok-conflict.ensures.told.told

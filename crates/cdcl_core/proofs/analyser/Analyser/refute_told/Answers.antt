@@ -23,19 +23,19 @@ trace_all-requires-clause-false_now g c = c.requires.conflict.all_false
 
 pub hints_of_lesson-requires-clause-ids : goal.hints_of_lesson-requires-clause-ids
 hints_of_lesson-requires-clause-ids g c = subst (λ rs. (r : Resolved) → Contains rs r → IsId r.id) (sym c.deref.ensures.value)
-    (resolved_ids c.trace_all.new.log.formula.now c.args.self.now.state.now (g.P.ParityEngine.state c.args.self.now.engine.now) c.trace_all.new.rows.items (g.L.Sink.items c.trace_all.new.log.sink.now) c.in_ok-traced.ensures.on.stands c.args.conflict.now.lits c.in_ok-traced.traced.resolved.items []
-    (follows_sourced c.args.self.now.state.now c.trace_all.new.rows.items c.args.conflict.now.lits c.in_ok-traced.traced.resolved.items [] (subst (λ first. Follows c.args.self.now.state.now.trail c.args.conflict.now.lits (IsHeldBeside c.args.self.now.state.now c.trace_all.new.rows.items first) c.in_ok-traced.traced.resolved.items []) c.requires.none
-    (follows_nothing c.args.self.now.state.now.trail c.in_ok-traced.ensures.on.stands.3.trail.follows.sound c.requires.at.level c.args.conflict.now.lits (IsHeldBeside c.args.self.now.state.now c.trace_all.new.rows.items c.args.first.now) c.in_ok-traced.traced.resolved.items c.in_ok-traced.traced.lits c.in_ok-traced.ensures.left))))
+    (resolved_ids c.trace_all.new.log.formula.now c.args.self.now.state.now (g.P.ParityEngine.state c.args.self.now.engine.now) c.trace_all.new.rows (g.L.Sink.items c.trace_all.new.log.sink.now) c.in_ok-traced.ensures.on.stands c.args.conflict.now.lits c.in_ok-traced.traced.resolved.items []
+    (follows_sourced c.args.self.now.state.now c.trace_all.new.rows c.args.conflict.now.lits c.in_ok-traced.traced.resolved.items [] (subst (λ first. Follows c.args.self.now.state.now.trail c.args.conflict.now.lits (IsHeldBeside c.args.self.now.state.now c.trace_all.new.rows first) c.in_ok-traced.traced.resolved.items []) c.requires.none
+    (follows_nothing c.args.self.now.state.now.trail c.in_ok-traced.ensures.on.stands.3.trail.follows.sound c.requires.at.level c.args.conflict.now.lits (IsHeldBeside c.args.self.now.state.now c.trace_all.new.rows c.args.first.now) c.in_ok-traced.traced.resolved.items c.in_ok-traced.traced.lits c.in_ok-traced.ensures.left))))
 
 pub hints_of_lesson-requires-clause-conflict : goal.hints_of_lesson-requires-clause-conflict
 hints_of_lesson-requires-clause-conflict g c = c.requires.told.0
 
 pub tell_empty-requires-clause-shown : goal.tell_empty-requires-clause-shown
 tell_empty-requires-clause-shown g c =
-    let held = c.in_ok-traced.ensures.held c.args.conflict.now.lits c.args.conflict.now.id (conflict_is_held c.args.self.now.state.now c.args.conflict.now.rows.items c.args.first.now c.args.conflict.now.lits c.args.conflict.now.id c.requires.at.stands.3.trail.follows.sound c.requires.conflict) in
-    told_refutes c.trace_all.new.log.formula.now c.args.self.now.state.now (g.P.ParityEngine.state c.args.self.now.engine.now) c.trace_all.new.rows.items (g.L.Sink.items c.trace_all.new.log.sink.now) c.in_ok-traced.ensures.on.stands c.requires.at.level c.in_ok-traced.traced.resolved.items c.args.conflict.now.lits c.args.conflict.now.id
-    (still_sourced c.args.self.now.state.now c.trace_all.new.rows.items c.args.first.now c.args.conflict.now.lits c.args.conflict.now.id c.requires.told.0 held).0 (subst (λ first. Follows c.args.self.now.state.now.trail c.args.conflict.now.lits (IsHeldBeside c.args.self.now.state.now c.trace_all.new.rows.items first) c.in_ok-traced.traced.resolved.items []) c.requires.none
-    (follows_nothing c.args.self.now.state.now.trail c.in_ok-traced.ensures.on.stands.3.trail.follows.sound c.requires.at.level c.args.conflict.now.lits (IsHeldBeside c.args.self.now.state.now c.trace_all.new.rows.items c.args.first.now) c.in_ok-traced.traced.resolved.items c.in_ok-traced.traced.lits c.in_ok-traced.ensures.left))
+    let held = c.in_ok-traced.ensures.held c.args.conflict.now.lits c.args.conflict.now.id (conflict_is_held c.args.self.now.state.now c.args.conflict.now.rows c.args.first.now c.args.conflict.now.lits c.args.conflict.now.id c.requires.at.stands.3.trail.follows.sound c.requires.conflict) in
+    told_refutes c.trace_all.new.log.formula.now c.args.self.now.state.now (g.P.ParityEngine.state c.args.self.now.engine.now) c.trace_all.new.rows (g.L.Sink.items c.trace_all.new.log.sink.now) c.in_ok-traced.ensures.on.stands c.requires.at.level c.in_ok-traced.traced.resolved.items c.args.conflict.now.lits c.args.conflict.now.id
+    (still_sourced c.args.self.now.state.now c.trace_all.new.rows c.args.first.now c.args.conflict.now.lits c.args.conflict.now.id c.requires.told.0 held).0 (subst (λ first. Follows c.args.self.now.state.now.trail c.args.conflict.now.lits (IsHeldBeside c.args.self.now.state.now c.trace_all.new.rows first) c.in_ok-traced.traced.resolved.items []) c.requires.none
+    (follows_nothing c.args.self.now.state.now.trail c.in_ok-traced.ensures.on.stands.3.trail.follows.sound c.requires.at.level c.args.conflict.now.lits (IsHeldBeside c.args.self.now.state.now c.trace_all.new.rows c.args.first.now) c.in_ok-traced.traced.resolved.items c.in_ok-traced.traced.lits c.in_ok-traced.ensures.left))
     c.in_ok-hints.hints (c.in_ok-hints.ensures ∙ ap (λ rs. hints_from rs ++ pos c.args.conflict.now.id ∷ []) c.deref.ensures.value)
 
 pub tell_empty-requires-clause-going : goal.tell_empty-requires-clause-going

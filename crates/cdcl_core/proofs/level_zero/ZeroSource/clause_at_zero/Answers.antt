@@ -17,10 +17,10 @@ place_of-place-requires g c =
     subst (IsTrueIn c.args.self.now.state.now.trail.entries) (sym (ap Rattle.cx_base.specs.Literals.negate c.negate.ensures ∙ negate-negate c.args.literal)) (h.0, (h.1, h.2))
 
 pub unit-requires-clause-ids : goal.unit-requires-clause-ids
-unit-requires-clause-ids g c = has_ids c.args.self.now.log.now.formula.now c.args.self.now.state.now (g.P.ParityEngine.state c.args.self.now.engine.now) c.args.self.now.rows.now.items (g.L.Sink.items c.args.self.now.log.now.sink.now) c.requires.ready.stands
+unit-requires-clause-ids g c = has_ids c.args.self.now.log.now.formula.now c.args.self.now.state.now (g.P.ParityEngine.state c.args.self.now.engine.now) c.args.self.now.rows.now (g.L.Sink.items c.args.self.now.log.now.sink.now) c.requires.ready.stands
 
 pub stored-requires-clause-ids : goal.stored-requires-clause-ids
-stored-requires-clause-ids g c = has_ids c.args.self.now.log.now.formula.now c.args.self.now.state.now (g.P.ParityEngine.state c.args.self.now.engine.now) c.args.self.now.rows.now.items (g.L.Sink.items c.args.self.now.log.now.sink.now) c.requires.ready.stands
+stored-requires-clause-ids g c = has_ids c.args.self.now.log.now.formula.now c.args.self.now.state.now (g.P.ParityEngine.state c.args.self.now.engine.now) c.args.self.now.rows.now (g.L.Sink.items c.args.self.now.log.now.sink.now) c.requires.ready.stands
 
 pub stored-requires-clause-live : goal.stored-requires-clause-live
 stored-requires-clause-live g c =

@@ -34,7 +34,7 @@ tell_reason-requires-clause-explains g c = reason_explains (g.P.ParityEngine.sta
 pub returns : goal.returns
 returns g c =
     let sound = c.requires.ready.stands.3.trail.follows.sound in
-    let rows = c.in_ok-lits.ensures.rows ∙ ap (λ x. c.args.self.now.rows.now.items ++ x ∷ []) (sym c.in_ok-lits.ensures.clause) in
+    let rows = c.in_ok-lits.ensures.rows ∙ ap (λ x. c.args.self.now.rows.now ++ x ∷ []) (sym c.in_ok-lits.ensures.clause) in
     let stands = subst (λ rows. SearchStands c.tell_reason.new.log.formula.now c.args.self.now.state.now (g.P.ParityEngine.state c.args.self.now.engine.now) rows (g.L.Sink.items c.tell_reason.new.log.sink.now)) (sym c.in_ok-lits.ensures.rows) c.in_ok-lits.ensures.stands_on.stands in
     let implied : IsAntecedent c.args.self.now.state.now.trail c.args.literal c.in_ok-lits.lits =
     subst (IsAntecedent c.args.self.now.state.now.trail c.args.literal) (sym c.in_ok-lits.ensures.clause)
@@ -44,14 +44,14 @@ returns g c =
     record {
       clause = record {
         held = inl (
-          told_is_sourced c.args.self.now.state.now c.args.self.now.rows.now.items c.tell_reason.new.rows.items c.in_ok-lits.lits rows c.next_ids-id.result.clause (search rules),
+          told_is_sourced c.args.self.now.state.now c.args.self.now.rows.now c.tell_reason.new.rows c.in_ok-lits.lits rows c.next_ids-id.result.clause (search rules),
           antecedent_is_plain c.args.self.now.state.now.trail sound c.args.literal c.requires.implied.0 c.requires.implied.1.within c.requires.implied.1.is c.in_ok-lits.lits implied,
         );
         implied = implied;
       };
       more = record {
-        grows = held_grows c.args.self.now.state.now c.args.self.now.rows.now.items c.tell_reason.new.rows.items c.args.self.now.first.now (told_grows c.args.self.now.state.now c.args.self.now.rows.now.items c.tell_reason.new.rows.items c.in_ok-lits.lits rows);
-        one = let long = ap length rows ∙ length-append c.args.self.now.rows.now.items (c.in_ok-lits.lits ∷ []) in omega (arith, long);
+        grows = held_grows c.args.self.now.state.now c.args.self.now.rows.now c.tell_reason.new.rows c.args.self.now.first.now (told_grows c.args.self.now.state.now c.args.self.now.rows.now c.tell_reason.new.rows c.in_ok-lits.lits rows);
+        one = let long = ap length rows ∙ length-append c.args.self.now.rows.now (c.in_ok-lits.lits ∷ []) in omega (arith, long);
       };
       on = record {
         ready = record {
@@ -69,7 +69,7 @@ returns-in_err-lits g c =
     let fault = err_from_is_err_and c.from_residual-in_err-lits.result c.from_residual-in_err-lits.ensures.1 in
     rw (fault.1, fault.2) (record {
       clause = tt;
-      more = record { grows = subst (λ rs. AreHeld (IsHeldBeside c.args.self.now.state.now c.args.self.now.rows.now.items c.args.self.now.first.now) (IsHeldBeside c.args.self.now.state.now rs c.args.self.now.first.now)) (sym c.in_err-lits.ensures.same) (λ d n h. h); one = tt };
+      more = record { grows = subst (λ rs. AreHeld (IsHeldBeside c.args.self.now.state.now c.args.self.now.rows.now c.args.self.now.first.now) (IsHeldBeside c.args.self.now.state.now rs c.args.self.now.first.now)) (sym c.in_err-lits.ensures.same) (λ d n h. h); one = tt };
       on = record { ready = tt; log = c.in_err-lits.ensures.stands_on.log; lent = record { state = refl; engine = refl; log = refl; rows = refl; first = refl } };
     })
 

@@ -10,7 +10,7 @@ use Rattle.cdcl_core.proofs.rounds.Run.end.Goals as goal
 pub fail-requires-clause-fails : goal.fail-requires-clause-fails
 fail-requires-clause-fails g c =
     let k = rw c.in-Clause.is at c.requires.concludes in
-    fails_by c.args.self.now.log.now.formula.now.constraints c.args.self.now.state.now c.in-Clause.conflict.lits c.in-Clause.conflict.id c.args.kept c.args.below c.in-Clause.conflict.rows.items k.1 c.requires.at
+    fails_by c.args.self.now.log.now.formula.now.constraints c.args.self.now.state.now c.in-Clause.conflict.lits c.in-Clause.conflict.id c.args.kept c.args.below c.in-Clause.conflict.rows k.1 c.requires.at
 
 pub returns-in-Clause-clause-none : goal.returns-in-Clause-clause-none
 returns-in-Clause-clause-none g c = λ by kept level. c.fail.ensures.none kept level
