@@ -33,14 +33,14 @@ use Rattle.cdcl_search.proofs.DeletedRows.{temporary_learned, temporary_stretche
 use Rattle.cdcl_core.specs.Learning.{IsTaught}
 
 -- literals of the trail are within the variables
-negated_within : (formula : Problem) (t : TrailState) → t.variables ≡ formula.variables → Rattle.cx_trail.specs.Sequence.IsTrail t → (ps : List ℕ) → Rattle.std.specs.List.AllByRecursion (λ p. p < length t.entries) ps → AreWithin formula.variables (negated_at t ps)
+pub negated_within : (formula : Problem) (t : TrailState) → t.variables ≡ formula.variables → Rattle.cx_trail.specs.Sequence.IsTrail t → (ps : List ℕ) → Rattle.std.specs.List.AllByRecursion (λ p. p < length t.entries) ps → AreWithin formula.variables (negated_at t ps)
 negated_within formula t vars sound [] a = tt
 negated_within formula t vars sound (p ∷ ps) a = (
   (sound.low p a.0, let high = sound.high p a.0 in omega (arith, high, vars)),
   negated_within formula t vars sound ps a.1,
 )
 
-below_first : (t : TrailState) (first : ℕ) (rest : List ℕ) → first < length t.entries → Rattle.std.specs.List.AllByRecursion (λ q. q < first) rest → Rattle.std.specs.List.AllByRecursion (λ p. p < length t.entries) rest
+pub below_first : (t : TrailState) (first : ℕ) (rest : List ℕ) → first < length t.entries → Rattle.std.specs.List.AllByRecursion (λ q. q < first) rest → Rattle.std.specs.List.AllByRecursion (λ p. p < length t.entries) rest
 below_first t first [] h a = tt
 below_first t first (q ∷ rest) h a = (let less = a.0 in omega (arith, less, h), below_first t first rest h a.1)
 

@@ -5,8 +5,7 @@ use Rattle.cx_base.specs.Assumptions.{assumes, is_ending}
 use Rattle.cx_base.proofs.LiteralLaws.{negate-negate, same_literal-itself}
 use Rattle.cdcl_search.proofs.EndingClauses.{not_ending}
 use Rattle.cdcl_core.specs.Failing.{IsFree}
-use Rattle.cx_base.specs.Problem.{Problem}
-use Rattle.cx_base.specs.declared.steps.LogStep.{LogStep}
+use Rattle.cx_base.specs.Problem.{Problem, AreWithin}
 use Rattle.cx_semantics.specs.Ids.{highest_id}
 use Rattle.cx_base.specs.declared.steps.LogStep.TheVariants.{ClauseWithHints, Delete}
 use Rattle.cx_base.specs.declared.steps.LogEvent.{LogEvent}
@@ -34,12 +33,13 @@ use Rattle.cdcl_search.specs.Ties.{first_row_id, row_ids, SearchStands}
 use Rattle.cdcl_search.specs.Sources.{IsSourcedBy}
 use Rattle.std.specs.Prelude.{Ok, Err, OnOk, IsTrue}
 use Rattle.cdcl_search.specs.declared.logs.SearchLog.{SearchLog}
-use Rattle.cdcl_search.specs.Tells.{IsLeft, as_events, with_events}
+use Rattle.cdcl_search.specs.Tells.{IsLeft, with_events}
+use Rattle.cdcl_search.proofs.IntegerLaws.{all_spelt}
 use Rattle.cdcl_search.proofs.RowSteps.{is_left}
 use Rattle.cdcl_search.specs.Deleting.{deletions}
 use Rattle.cdcl_search.proofs.SourceLaws.{sourced_is_live, sourced_is_named}
 use Rattle.cdcl_core.specs.Learning.{IsTaught, Learns, IsLesson}
-use Rattle.cdcl_core.proofs.Entering.{round_is_search, tidy}
+use Rattle.cdcl_core.proofs.Entering.{below_first, negated_within, round_is_search, tidy}
 use Rattle.cdcl_core.specs.Concluding.{IsConflictClause}
 
 -- ---- what deletions tell
@@ -87,26 +87,39 @@ module _ (formula : Problem) (c : SearchState) (e : State) (rows : List (List Li
       let named = sourced_is_named formula c e rows st.0 st.3 in
       followed_is_hinted st.0.moment.tables.clauses c.trail (IsSourcedBy c rows) named conflict k (named conflict k is_conflict.sourced) resolved lits teaches.learned.follows
 
-  module _ (integers : literals (integers_of lits) ≡ lits) (hints : List ℤ) (hinted : hints ≡ hints_from resolved ++ pos k ∷ []) (steps : List LogStep) (are : as_events steps ≡ Step (ClauseWithHints c.next (integers_of lits) hints) ∷ deletions (row_ids (first_row_id c.next) (length rows))) where
-    abbrev then : Search
-    then = after_round st.0 c.next (integers_of lits) hints back (is_taught integers).first
+  -- the literals are those of the formula's variables
+  pub within : AreWithin formula.variables lits
+  within = subst (AreWithin formula.variables) (sym teaches.learned.are)
+      (negated_within formula c.trail st.3.trail.variables st.3.trail.follows.sound (teaches.learned.first ∷ teaches.learned.rest)
+      (teaches.learned.within, below_first c.trail teaches.learned.first teaches.learned.rest teaches.learned.within teaches.learned.falling.0))
 
-    events_then : then.events ≡ st.0.events ++ Conflict (c.conflicts + 1) ∷ as_events steps
-    events_then =
-        let s1 = after_learned st.0 c.next (integers_of lits) hints back in
-        deleted_events s1 st.0.moment.new_clauses
-        ∙ append_assoc (st.0.events ++ Conflict (st.0.conflicts + 1) ∷ []) (Step (ClauseWithHints c.next (integers_of lits) hints) ∷ []) (deletions st.0.moment.new_clauses)
-        ∙ append_assoc st.0.events (Conflict (st.0.conflicts + 1) ∷ []) (Step (ClauseWithHints c.next (integers_of lits) hints) ∷ deletions st.0.moment.new_clauses)
-        ∙ ap (λ m. st.0.events ++ Conflict (m + 1) ∷ Step (ClauseWithHints c.next (integers_of lits) hints) ∷ deletions st.0.moment.new_clauses) st.3.counts.marked
-        ∙ ap (λ ids. st.0.events ++ Conflict (c.conflicts + 1) ∷ Step (ClauseWithHints c.next (integers_of lits) hints) ∷ deletions ids) st.3.log.served.new_clauses
-        ∙ ap (λ es. st.0.events ++ Conflict (c.conflicts + 1) ∷ es) (sym are)
+  integers : literals (integers_of lits) ≡ lits
+  integers = all_spelt formula.variables lits within
 
-    told_then : (o : Option (List LogEvent)) → AreTold o st.0.events → AreTold (with_events (Conflict (c.conflicts + 1) ∷ as_events steps) o) then.events
-    told_then None a = tt
-    told_then (Some es) a = ap (λ xs. xs ++ Conflict (c.conflicts + 1) ∷ as_events steps) a ∙ sym events_then
+  abbrev hints : List ℤ
+  hints = hints_from resolved ++ pos k ∷ []
 
-    pub learns_then : (new : Option (List LogEvent)) → new ≡ with_events (Conflict (c.conflicts + 1) ∷ as_events steps) old → Learns formula c e lits back new
-    learns_then new is = record { search = st.0; taught = is_taught integers; hints = hints; right = subst (AreHintsFor st.0.moment.tables.clauses lits) (sym hinted) right; told_is = subst (λ o. AreTold o then.events) (sym is) (told_then old st.2) }
+  abbrev then : Search
+  then = after_round st.0 c.next (integers_of lits) hints back (is_taught integers).first
+
+  abbrev more : List LogEvent
+  more = Step (ClauseWithHints c.next (integers_of lits) hints) ∷ deletions (row_ids (first_row_id c.next) (length rows))
+
+  events_then : then.events ≡ st.0.events ++ Conflict (c.conflicts + 1) ∷ more
+  events_then =
+      let s1 = after_learned st.0 c.next (integers_of lits) hints back in
+      deleted_events s1 st.0.moment.new_clauses
+      ∙ append_assoc (st.0.events ++ Conflict (st.0.conflicts + 1) ∷ []) (Step (ClauseWithHints c.next (integers_of lits) hints) ∷ []) (deletions st.0.moment.new_clauses)
+      ∙ append_assoc st.0.events (Conflict (st.0.conflicts + 1) ∷ []) (Step (ClauseWithHints c.next (integers_of lits) hints) ∷ deletions st.0.moment.new_clauses)
+      ∙ ap (λ m. st.0.events ++ Conflict (m + 1) ∷ Step (ClauseWithHints c.next (integers_of lits) hints) ∷ deletions st.0.moment.new_clauses) st.3.counts.marked
+      ∙ ap (λ ids. st.0.events ++ Conflict (c.conflicts + 1) ∷ Step (ClauseWithHints c.next (integers_of lits) hints) ∷ deletions ids) st.3.log.served.new_clauses
+
+  told_then : (o : Option (List LogEvent)) → AreTold o st.0.events → AreTold (with_events (Conflict (c.conflicts + 1) ∷ more) o) then.events
+  told_then None a = tt
+  told_then (Some es) a = ap (λ xs. xs ++ Conflict (c.conflicts + 1) ∷ more) a ∙ sym events_then
+
+  pub learns_then : (new : Option (List LogEvent)) → new ≡ with_events (Conflict (c.conflicts + 1) ∷ more) old → Learns formula c e lits back new
+  learns_then new is = record { search = st.0; taught = is_taught integers; hints = hints; right = right; told_is = subst (λ o. AreTold o then.events) (sym is) (told_then old st.2) }
 
 -- what a conflict taught leaves the log right
 pub learned_is_left : (formula : Problem) (c : SearchState) (e : State) (lits : List Literal) (back : ℕ) (told : Option (List LogEvent)) → Learns formula c e lits back told → IsLeft formula told

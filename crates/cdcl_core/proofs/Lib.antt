@@ -6,6 +6,7 @@ pub mod EnteredCases
 pub mod JumpLaws
 pub mod HintIds
 pub mod LearnLaws
+pub mod LessonTexts
 pub mod FailLaws
 pub mod AgainstLaws
 pub mod ClashLaws

@@ -2,6 +2,7 @@ pub mod LogLines
 pub mod Results
 pub mod Narrowing
 pub mod Learning
+pub mod Lessons
 pub mod Entering
 pub mod Failing
 pub mod Concluding

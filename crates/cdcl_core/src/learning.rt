@@ -1,7 +1,7 @@
 //! Learning from a conflict.
 ghost use Rattle.std.specs.Prelude.{◌≡◌, pos, [], ◌∷◌, ◌++◌, IfOk, OnOk};
 ghost use Rattle.std.specs.List.{Contains};
-ghost use Rattle.cx_base.specs.Integers.{integers_of, literals};
+ghost use Rattle.cx_base.specs.Integers.{integers_of};
 ghost use Rattle.cx_base.specs.Numbers.{AreStepIntegers};
 ghost use Rattle.cx_base.specs.declared.steps.LogEvent.TheVariants as event;
 ghost use Rattle.cx_base.specs.declared.steps.LogStep.TheVariants as step;
@@ -9,13 +9,16 @@ ghost use Rattle.conflict_learn.specs.Faults.{fault_in};
 ghost use Rattle.conflict_learn.specs.declared.learning.Resolved.{Resolved};
 ghost use Rattle.conflict_learn.specs.Marks.{AreClear};
 ghost use Rattle.search_steps.specs.Hints.{hints_from};
+ghost use Rattle.search_steps.specs.Recovering.{SettledWithRecovered};
 ghost use Rattle.cdcl_search.specs.Deleting.{deletions};
-ghost use Rattle.cdcl_search.specs.Tells.{IsId, AreIdsFrom, AreStepsOf};
-ghost use Rattle.cdcl_search.specs.Logs.{GoesOn, HasNotFailed, told_in};
+ghost use Rattle.cdcl_search.specs.Calls.{Tells};
+ghost use Rattle.cdcl_search.specs.Tells.{IsId, AreIdsFrom, AreStepsOf, AreTellable};
+ghost use Rattle.cdcl_search.specs.Logs.{GoesOn, HasNotFailed, IsRightBehind, told_in};
 ghost use Rattle.cdcl_search.specs.Ties.{first_row_id, row_ids};
 ghost use Rattle.cdcl_core.specs.Analysing.{AnalysesOn, CanAnalyse};
 ghost use Rattle.cdcl_core.specs.Concluding.{IsAtConflict, IsConflictClause, IsTold};
 ghost use Rattle.cdcl_core.specs.Learning.{AreUsed, IsLesson, Learns, MayLearn};
+ghost use Rattle.cdcl_core.specs.Lessons.{HasStepIds, events_after_mark, lesson_events};
 
 use crate::conflicts::Conflict;
 use cdcl_search::SearchState;
@@ -26,12 +29,12 @@ use cdcl_search::logs::SearchLog;
 use cdcl_search::rows::first_id_of_rows;
 use cdcl_search::source::Source;
 use cdcl_search::steps::chained;
-use cdcl_search::telling::tell_round;
+use cdcl_search::telling::{tell_round, tell_unmade};
 use conflict_learn::{CoreFault, Learned, Marks, Resolved, analyse};
 use cx_base::{IntList, Lit, LitList, LogEvent, LogStep};
 use parity_engine::ParityEngine;
 use std::alloc::{AllocError, Global};
-use step_text::Sink;
+use step_text::{Sink, Unmade};
 
 /// The steps after the mark of a conflict: the learned clause with its hints, and the deletions of the clauses of rows.
 fn steps_of_learned(
@@ -43,8 +46,7 @@ fn steps_of_learned(
 ) -> Result<Vec<LogStep>, AllocError>
     requires id { IsId id }
     requires rows { AreIdsFrom (first_row_id id) rows }
-    ensures steps { IfOk result (λ s. AreStepsOf (event.Step (step.ClauseWithHints id (integers_of lits.now) hints) ∷ deletions (row_ids (first_row_id id) rows)) s.items) }
-    ensures literals { IfOk result (λ s. literals (integers_of lits.now) ≡ lits.now) }
+    ensures { IfOk result (λ s. AreStepsOf (event.Step (step.ClauseWithHints id (integers_of lits.now) hints) ∷ deletions (row_ids (first_row_id id) rows)) s.items) }
 {
     let clause = chained(id, integers(alloc, lits)?, hints);
     let mut steps = Vec::new(alloc);
@@ -86,6 +88,57 @@ pub(crate) fn hints_of_lesson(
     Ok(IntList::from_vec(hints))
 }
 
+/// What is told of a learned clause, which is not made: the mark of its conflict, the clause with its hints, and the deletions of the clauses of rows.
+#[derive(Clone, Copy, Drop)]
+pub(crate) struct UnmadeLesson<'a> {
+    /// The number of the mark.
+    pub number: u64,
+    /// The id of the clause.
+    pub id: u64,
+    pub learned: &'a Learned,
+    pub conflict: &'a Conflict,
+}
+
+impl Unmade<LogEvent> for UnmadeLesson<'_> {
+    ghost items = { lesson_events };
+}
+
+/// The steps of a lesson after its mark.
+fn steps_of_lesson(alloc: Global, lesson: &UnmadeLesson) -> Result<Vec<LogStep>, AllocError>
+    requires { HasStepIds lesson.now }
+    ensures { IfOk result (λ s. AreStepsOf (events_after_mark lesson.now) s.items) }
+{
+    let learned = lesson.learned;
+    let conflict = lesson.conflict;
+    let hints = hints_of_lesson(alloc, &learned.resolved, conflict.id)?;
+    steps_of_learned(
+        alloc,
+        lesson.id,
+        learned.lits.as_slice(),
+        hints,
+        conflict.rows.len(),
+    )
+}
+
+/// Tells a lesson, which leaves the log right. Its steps are made only where the log does not take them unmade.
+fn tell_lesson<L: Sink<Item = LogEvent>>(
+    log: &mut SearchLog<L>,
+    lesson: &UnmadeLesson,
+) -> Result<(), CoreFault>
+    requires ids { HasStepIds lesson.now }
+    requires events { AreTellable log.old.formula.now (lesson_events lesson.now) }
+    requires unsettled { ¬ SettledWithRecovered log.old.formula.now }
+    requires going { HasNotFailed L.Sink log.old }
+    requires right { IsRightBehind L.Sink log.old (lesson_events lesson.now) }
+    ensures { Tells L.Sink log.old (lesson_events lesson.now) result log.new }
+{
+    if tell_unmade(log, lesson) {
+        return Ok(());
+    }
+    let steps = steps_of_lesson(log.alloc, lesson)?;
+    tell_round(log, lesson.number, steps)
+}
+
 /// Tells what a conflict taught: the mark, the learned clause with its hints, and the deletions of the clauses of rows.
 fn tell_learned<P: ParityEngine, L: Sink<Item = LogEvent>>(
     log: &mut SearchLog<L>,
@@ -102,15 +155,13 @@ fn tell_learned<P: ParityEngine, L: Sink<Item = LogEvent>>(
     ensures learned { OnOk result (Learns log.new.formula.now state.now (P.state engine.now) learned.now.lits learned.now.back_level (told_in L.Sink log.new)) }
     ensures log { GoesOn L.Sink log.old (fault_in result) log.new }
 {
-    let hints = hints_of_lesson(log.alloc, &learned.resolved, conflict.id)?;
-    let steps = steps_of_learned(
-        log.alloc,
-        state.next,
-        learned.lits.as_slice(),
-        hints,
-        conflict.rows.len(),
-    )?;
-    tell_round(log, state.conflicts + 1, steps)
+    let lesson = UnmadeLesson {
+        number: state.conflicts + 1,
+        id: state.next,
+        learned,
+        conflict,
+    };
+    tell_lesson(log, &lesson)
 }
 
 /// What a conflict teaches. The clauses of rows that are told for it come after its own.

@@ -4,6 +4,7 @@ use Rattle.std.proofs.Math.Seq.{take-suc}
 use Rattle.std.proofs.lemmas.List.{take_all}
 use Rattle.cx_base.specs.Literals.{Literal}
 use Rattle.cx_base.specs.Numbers.{AreStepIntegers}
+use Rattle.cx_base.specs.Problem.{AreWithin}
 use Rattle.cx_base.specs.Integers.{integer_of, integers_of, literal, literals}
 use Rattle.cx_base.proofs.Elements.{all_push}
 
@@ -12,6 +13,10 @@ pub spelt : (n : ℕ) (b : Bool) → 1 ≤ n → literal (integer_of (record { v
 spelt zero b h = absurd (omega (arith, h))
 spelt (suc n) true h = refl
 spelt (suc n) false h = refl
+
+pub all_spelt : (n : ℕ) (lits : List Literal) → AreWithin n lits → literals (integers_of lits) ≡ lits
+all_spelt n [] w = refl
+all_spelt n (l ∷ lits) w = ap (λ m. m ∷ literals (integers_of lits)) (spelt l.variable l.negative w.0.0) ∙ ap (λ ls. l ∷ ls) (all_spelt n lits w.1)
 
 -- what a loop has made of the first literals
 pub record AreMade (done : List Literal) (made : List ℤ) : Type 0 where

@@ -1,6 +1,7 @@
 pub mod Places
 pub mod IntegerLaws
 pub mod StepTexts
+pub mod Tellables
 pub mod Events
 pub mod TableLaws
 pub mod LearnedIds

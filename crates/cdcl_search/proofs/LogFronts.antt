@@ -186,13 +186,11 @@ tells_by m old new events r tells right texts low unmarked formula name = record
 }
 
 -- steps that were not made: they are told, or none is
-pub tells_unmade : {L : Type 0} (m : sink.Ghosts L LogEvent) (old new : SearchLog L) (events : List LogEvent) (taken : Bool) → AreTellable events → IsRightBehind m old events
+pub tells_unmade : {L : Type 0} (m : sink.Ghosts L LogEvent) (old new : SearchLog L) (events : List LogEvent) (taken : Bool) → AreTellable old.formula.now events → IsRightBehind m old events
     → (taken ≡ true → m.items new.sink.now ≡ with_events events (m.items old.sink.now)) → (taken ≡ false → m.items new.sink.now ≡ m.items old.sink.now) → m.faults new.sink.now ≡ m.faults old.sink.now
     → m.has_failed new.sink.now ≡ m.has_failed old.sink.now → m.keeps old.sink.now new.sink.now → new.formula.now ≡ old.formula.now → new.sink.ghost_name ≡ old.sink.ghost_name → TellsUnmade m old events taken new
-tells_unmade m old new events true (steps, are) right told untold faults failed keeps formula name =
-    tells_by {T = Unit {0}} m old new events (Ok tt) (record { told = told refl; faults = faults; failed = failed; frame = keeps }) right
-    (subst (AllByRecursion HasText) are.are (tellable_have_texts steps are.texts)) (subst (AllByRecursion HasLowId) are.are (tellable_are_low steps are.texts))
-    (λ s. subst (AllByRecursion (λ e. mark_of e ≡ None)) are.are (steps_are_unmarked steps)) formula name
-tells_unmade m old new events false (steps, are) right told untold faults failed keeps formula name =
+tells_unmade m old new events true are right told untold faults failed keeps formula name =
+    tells_by {T = Unit {0}} m old new events (Ok tt) (record { told = told refl; faults = faults; failed = failed; frame = keeps }) right are.texts are.ids are.unmarked formula name
+tells_unmade m old new events false are right told untold faults failed keeps formula name =
     tells_by {T = Unit {0}} m old new [] (Ok tt) (record { told = untold refl ∙ sym (no_more (m.items old.sink.now)); faults = faults; failed = failed; frame = keeps })
     (fronts_are_left old.formula.now (m.items old.sink.now) events 0 right) tt tt (λ s. tt) formula name

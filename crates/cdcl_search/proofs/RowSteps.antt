@@ -47,7 +47,8 @@ use Rattle.cdcl_search.specs.Explaining.{Explains}
 use Rattle.cdcl_search.proofs.Events.{no_more, more_and_more}
 use Rattle.cdcl_search.proofs.IntegerLaws.{spelt}
 use Rattle.cdcl_search.proofs.LowIds.{variables_are_few}
-use Rattle.cdcl_search.proofs.StepTexts.{literals_are_proper, row_is_tellable}
+use Rattle.cdcl_search.proofs.StepTexts.{literals_are_proper}
+use Rattle.cdcl_search.proofs.Tellables.{row_is_tellable}
 use Rattle.cdcl_search.proofs.TableLaws.{put_same, put_other, drop_other, put_answers_below, clauses_stay, units_stay}
 
 -- ---- variables
@@ -303,10 +304,10 @@ module _ (formula : Problem) (c : SearchState) (e : State) (rows : List (List Li
     are = ap (λ k. row_events k (integers_of r.parity) r.sources ids.clause (integers_of r.clause)) next.sum
         ∙ ap (λ n. row_events (length formula.constraints + 1) (integers_of r.parity) r.sources n (integers_of r.clause)) next.clause
 
-    pub are_tellable : AreTellable its
+    pub are_tellable : AreTellable formula its
     are_tellable =
         let few = variables_are_few formula c e (first_row_id c.next) rows st.0 st.3 in
-        row_is_tellable ids.sum (integers_of r.parity) r.sources ids.clause (integers_of r.clause) next.proper.0 next.proper.1 (literals_are_proper formula.variables r.parity few (parity_within formula c e rows st.0 st.3 r x)) (sources_are r x)
+        row_is_tellable formula ids.sum (integers_of r.parity) r.sources ids.clause (integers_of r.clause) next.proper.0 next.proper.1 (literals_are_proper formula.variables r.parity few (parity_within formula c e rows st.0 st.3 r x)) (sources_are r x)
         (literals_are_proper formula.variables r.clause few (clause_within formula c e rows st.0 st.3 r x))
 
     pub stands_then : (new : Option (List LogEvent)) → new ≡ with_events its old → SearchStands formula c e (rows ++ r.clause ∷ []) new

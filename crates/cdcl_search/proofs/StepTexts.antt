@@ -1,5 +1,5 @@
 -- A text can have each step that the search tells.
-use Rattle.std.proofs.Common.{◌≡◌, refl, ap, sym, subst, ◌≤◌, ◌<◌, ℕ, ℤ, pos, nat_abs, List, [], ◌∷◌, map, flat_map, arith}
+use Rattle.std.proofs.Common.{◌≡◌, ap, sym, subst, ◌≤◌, ◌<◌, ℕ, ℤ, pos, nat_abs, List, [], ◌∷◌, map, flat_map, arith}
 use Rattle.std.specs.List.{AllByRecursion}
 use Rattle.cx_base.specs.Literals.{Literal}
 use Rattle.cx_base.specs.Problem.{AreWithin}
@@ -13,8 +13,7 @@ use Rattle.cx_texts.specs.Grammar.{Field, spelled, spelled_list, IsProper}
 use Rattle.cx_texts.specs.LogText.{log_fields}
 use Rattle.cx_texts.specs.Printed.{HasText}
 use Rattle.cx_texts.specs.Words.{Word, number, IsWithin}
-use Rattle.search_steps.specs.LogSteps.{row_events, sum_events}
-use Rattle.cdcl_search.specs.Tells.{IsId, IsTellable, AreTellable}
+use Rattle.cdcl_search.specs.Tells.{IsId, IsTellable}
 use Rattle.cdcl_search.proofs.IntegerLaws.{spelt}
 
 abbrev AreWords : List Word → Type 0
@@ -114,15 +113,3 @@ bare_deletion_of_sum n i = (has_text (step.DeleteParity n []) (tt, (tt, (positiv
 
 pub deletion_of_sum_text : (n : ℕ) (zs : List ℤ) → IsId n → zs ≡ [] → IsTellable (step.DeleteParity n zs)
 deletion_of_sum_text n zs i none = subst (λ xs. IsTellable (step.DeleteParity n xs)) (sym none) (bare_deletion_of_sum n i)
-
--- ---- the steps of a row
-sum_is_tellable : (k : ℕ) (rs : List ℤ) (ids : List ℕ) (n : ℕ) (zs : List ℤ) → IsId k → IsId n → AreStepIntegers rs → AllByRecursion IsId ids → AreStepIntegers zs → AreTellable (sum_events k rs ids n zs)
-sum_is_tellable k rs ids n zs i j a b d = (
-  step.Parity k rs ids ∷ step.ClauseOfParity n zs k ∷ step.DeleteParity k [] ∷ [],
-  record { are = refl; texts = (sum_text k rs ids i a b, (clause_of_sum_text n zs k j d i, (deletion_of_sum_text k [] i refl, tt))) },
-)
-
-pub row_is_tellable : (k : ℕ) (rs : List ℤ) (ids : List ℕ) (n : ℕ) (zs : List ℤ) → IsId k → IsId n → AreStepIntegers rs → AllByRecursion IsId ids → AreStepIntegers zs → AreTellable (row_events k rs ids n zs)
-row_is_tellable k rs [] n zs i j a b d = sum_is_tellable k rs [] n zs i j a b d
-row_is_tellable k rs (source ∷ []) n zs i j a b d = (step.ClauseOfParity n zs source ∷ [], record { are = refl; texts = (clause_of_sum_text n zs source j d b.0, tt) })
-row_is_tellable k rs (one ∷ two ∷ ids) n zs i j a b d = sum_is_tellable k rs (one ∷ two ∷ ids) n zs i j a b d

@@ -97,9 +97,11 @@ pub record AreStepsOf (events : List LogEvent) (steps : List LogStep) : Type 0 w
   pub are : as_events steps ≡ events
   pub texts : AllByRecursion IsTellable steps
 
--- these events are steps, each of which the search may tell
-abbrev pub AreTellable : List LogEvent → Type 0
-AreTellable events = (steps : List LogStep) × AreStepsOf events steps
+-- The search may tell these events: a text can have each, and its id is low. None is a mark where the formula is settled with its recovered parities.
+pub record AreTellable (formula : Problem) (events : List LogEvent) : Type 0 where
+  pub texts : AllByRecursion HasText events
+  pub ids : AllByRecursion HasLowId events
+  pub unmarked : SettledWithRecovered formula → AllByRecursion (λ e. mark_of e ≡ None) events
 
 -- where the events are told, each has a low id
 abbrev pub HaveLowIds : Option (List LogEvent) → Type 0

@@ -175,7 +175,7 @@ fn tell_row<L: Sink<Item = LogEvent>>(
 ) -> Result<(), CoreFault>
     requires proper { IsId ids.sum × IsId ids.clause }
     requires sources { AllByRecursion IsId sources }
-    requires steps { AreTellable (row_events ids.sum (integers_of parity.now) sources ids.clause (integers_of clause.now)) }
+    requires events { AreTellable log.old.formula.now (row_events ids.sum (integers_of parity.now) sources ids.clause (integers_of clause.now)) }
     requires going { HasNotFailed L.Sink log.old }
     requires right { IsRightBehind L.Sink log.old (row_events ids.sum (integers_of parity.now) sources ids.clause (integers_of clause.now)) }
     ensures { Tells L.Sink log.old (row_events ids.sum (integers_of parity.now) sources ids.clause (integers_of clause.now)) result log.new }

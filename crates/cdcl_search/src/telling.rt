@@ -105,12 +105,12 @@ pub fn tell_step<L: Sink<Item = LogEvent>>(
     tell(log.sink, LogEvent::Step(step))
 }
 
-/// Tells steps that are not made, where the sink takes them so, and says whether it did. They leave the log right.
+/// Tells events that are not made, where the sink takes them so, and says whether it did. They leave the log right.
 pub fn tell_unmade<L: Sink<Item = LogEvent>, E: Unmade<LogEvent>>(
     log: &mut SearchLog<L>,
     unmade: &E,
 ) -> bool
-    requires steps { AreTellable (E.items unmade.now) }
+    requires events { AreTellable log.old.formula.now (E.items unmade.now) }
     requires going { HasNotFailed L.Sink log.old }
     requires right { IsRightBehind L.Sink log.old (E.items unmade.now) }
     ensures { TellsUnmade L.Sink log.old (E.items unmade.now) result log.new }

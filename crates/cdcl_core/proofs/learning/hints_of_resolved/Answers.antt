@@ -1,10 +1,8 @@
-use Rattle.std.proofs.Common.{◌≡◌, refl, sym, ap, ◌∙◌, subst, ℕ, suc, ◌-◌, ◌<◌, pos, List, [], ◌∷◌, ◌++◌, length, map, get_or, drop, drop-cons, arith}
-use Rattle.std.specs.Prelude.{reverse}
-use Rattle.std.proofs.lemmas.List.{map-append, reverse-append}
+use Rattle.std.proofs.Common.{◌≡◌, refl, sym, ap, ◌∙◌, subst, ℕ, suc, ◌-◌, ◌<◌, pos, List, [], ◌∷◌, ◌++◌, length, get_or, drop, drop-cons, arith}
 use Rattle.cx_base.specs.Numbers.{AreStepIntegers}
 use Rattle.conflict_learn.specs.declared.learning.Resolved.{Resolved}
-use Rattle.conflict_learn.specs.Learning.{ids_of}
 use Rattle.search_steps.specs.Hints.{hints_from}
+use Rattle.cdcl_core.proofs.LessonTexts.{hints_of_cons}
 use Rattle.cdcl_core.proofs.learning.hints_of_resolved.Goals as goal
 
 none_left : (xs : List Resolved) (n : ℕ) → n ≡ length xs → hints_from (drop n xs) ≡ []
@@ -14,13 +12,10 @@ none_left xs n is = ap (λ m. hints_from (drop m xs)) is ∙ ap hints_from (all 
     all [] = refl
     all (y ∷ ys) = all ys
 
-of_cons : (x : Resolved) (ys : List Resolved) → hints_from (x ∷ ys) ≡ hints_from ys ++ pos x.id ∷ []
-of_cons x ys = ap (λ rs. map pos (ids_of rs)) (reverse-append (x ∷ []) ys) ∙ ap (map pos) (map-append (λ (r : Resolved). r.id) (reverse ys) (x ∷ [])) ∙ map-append pos (ids_of (reverse ys)) (x.id ∷ [])
-
 one_more : (xs : List Resolved) (k n : ℕ) (x : Resolved) → suc k ≡ n → k < length xs → x ≡ get_or xs k x → hints_from (drop k xs) ≡ hints_from (drop n xs) ++ pos x.id ∷ []
 one_more xs k n x is less at =
     let parts : drop k xs ≡ x ∷ drop n xs = drop-cons xs k x less ∙ ap (λ y. y ∷ drop (suc k) xs) (sym at) ∙ ap (λ m. x ∷ drop m xs) is in
-    ap hints_from parts ∙ of_cons x (drop n xs)
+    ap hints_from parts ∙ hints_of_cons x (drop n xs)
 
 -- what is read at a place, whatever the default
 read_again : (xs : List Resolved) (k : ℕ) (x : Resolved) → x ≡ get_or xs k x → get_or xs k (get_or xs k x) ≡ get_or xs k x

@@ -24,8 +24,8 @@ pub tell_row-requires-clause-sources : goal.tell_row-requires-clause-sources
 tell_row-requires-clause-sources g c = sources_are c.args.log.now.formula.now c.args.state.now (g.P.ParityEngine.state c.args.engine.now) c.args.rows.now (g.L.Sink.items c.args.log.now.sink.now) c.requires.stands
     c.args.reason c.requires.explains
 
-pub tell_row-requires-clause-steps : goal.tell_row-requires-clause-steps
-tell_row-requires-clause-steps g c = are_tellable c.args.log.now.formula.now c.args.state.now (g.P.ParityEngine.state c.args.engine.now) c.args.rows.now (g.L.Sink.items c.args.log.now.sink.now) c.requires.stands
+pub tell_row-requires-clause-events : goal.tell_row-requires-clause-events
+tell_row-requires-clause-events g c = are_tellable c.args.log.now.formula.now c.args.state.now (g.P.ParityEngine.state c.args.engine.now) c.args.rows.now (g.L.Sink.items c.args.log.now.sink.now) c.requires.stands
     c.args.reason c.requires.explains c.requires.goes_on c.requires.room c.next_ids-ids.result c.next_ids-ids.ensures
 
 pub tell_row-requires-clause-right : goal.tell_row-requires-clause-right
