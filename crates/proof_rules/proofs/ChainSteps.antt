@@ -1,16 +1,51 @@
 -- Chains, one hint at a time, and the rules of a chain by how it ends.
-use Rattle.std.proofs.Common.{◌≡◌, refl, sym, ap, ◌∙◌, ◌&&◌, true, ℤ, nat_abs, Option, List, [], ◌∷◌, Some, None, inl, inr}
-use Rattle.std.specs.List.{cons_option}
-use Rattle.cx_base.specs.Literals.{Literal}
+use Rattle.std.proofs.Common.{◌≡◌, refl, sym, ap, ◌∙◌, ◌&&◌, not, cond, Bool, true, false, ℕ, ℤ, nat_abs, ◌+◌, ◌<◌, Option, List, [], ◌∷◌, ◌++◌, append-nil, length, get_or, take, Some, None, inl, inr}
+use Rattle.std.proofs.lemmas.List.{take_more}
+use Rattle.std.proofs.lemmas.List.Elements.{filter-append}
+use Rattle.std.proofs.lemmas.List.Folds.{list_all-append}
+use Rattle.std.specs.List.{cons_option, list_all}
+use Rattle.cx_base.specs.Literals.{Literal, negate, same_literal}
 use Rattle.cx_semantics.specs.declared.cause.Cause.TheVariants as causes
-use Rattle.cx_semantics.specs.Chain.{negations, left, one, count_left, right, not_unit, hints_end, go_on, chain, HaveSame}
+use Rattle.cx_semantics.specs.Chain.{has_literal, negations, left, one, more, count_left, right, not_unit, hints_end, go_on, chain, HaveSame}
 use Rattle.cx_semantics.specs.Judging.{AllHold, FirstFailure}
 use Rattle.cx_semantics.specs.ProofRules.{is_not_unit, is_hints_end, chaining}
 use Rattle.cx_semantics.specs.Tables.{Table, get}
 use Rattle.cx_semantics.proofs.SameSets.{AllSame, chain_same}
 use Rattle.proof_rules.specs.declared.chain.End.{End}
-use Rattle.proof_rules.specs.Ends.{EndsAs}
+use Rattle.proof_rules.specs.Ends.{EndsAs, and_one}
 use Rattle.proof_rules.specs.Kinds.{hinted, names_live, all_named}
+
+-- ---- what is left of a clause, one literal at a time
+
+count_last : (lits : List Literal) (l : Literal) → count_left (lits ++ l ∷ []) ≡ and_one (count_left lits) l
+count_last [] l = refl
+count_last (m ∷ lits) l = ap (λ b. cond b (one m) more) (list_all-append (same_literal m) lits (l ∷ [])) ∙ at (list_all (same_literal m) lits)
+  where
+    and_true : (b : Bool) → (b && true) ≡ b
+    and_true true = refl
+    and_true false = refl
+
+    at : (a : Bool) → cond (a && (same_literal m l && true)) (one m) more ≡ and_one (cond a (one m) more) l
+    at true = ap (λ b. cond b (one m) more) (and_true (same_literal m l))
+    at false = refl
+
+module _ (assumed clause : List Literal) (i : ℕ) (x : Literal) (less : i < length clause) (here : x ≡ get_or clause i x) where
+  left_last : left assumed (take (i + 1) clause) ≡ left assumed (take i clause) ++ cond (not (has_literal assumed (negate x))) (x ∷ []) []
+  left_last =
+      ap (left assumed) (take_more clause i x less ∙ ap (λ y. take i clause ++ y ∷ []) (sym here))
+      ∙ filter-append (λ l. not (has_literal assumed (negate l))) (take i clause) (x ∷ [])
+
+  pub one_left_more : has_literal assumed (negate x) ≡ false → and_one (count_left (left assumed (take i clause))) x ≡ count_left (left assumed (take (i + 1) clause))
+  one_left_more free =
+      sym (count_last (left assumed (take i clause)) x)
+      ∙ sym (ap count_left (left_last ∙ ap (λ b. left assumed (take i clause) ++ cond (not b) (x ∷ []) []) free))
+
+  pub none_left_more : has_literal assumed (negate x) ≡ true → count_left (left assumed (take i clause)) ≡ count_left (left assumed (take (i + 1) clause))
+  none_left_more taken =
+      ap count_left (sym (append-nil (left assumed (take i clause))))
+      ∙ sym (ap count_left (left_last ∙ ap (λ b. left assumed (take i clause) ++ cond (not b) (x ∷ []) []) taken))
+
+-- ---- chains
 
 all_same : (clauses : List (List Literal)) → AllSame clauses clauses
 all_same [] = tt

@@ -200,6 +200,11 @@ pub none_at : {R V : Type 0} (found : Option R) (o : Option V) (P : R → Type 0
 none_at None o P none says = ap is_some says
 none_at (Some x) o P none says = absurd (true≢false none)
 
+-- what a look-up that found something says
+pub some_at : {R V : Type 0} (found : Option R) (o : Option V) (P : R → V) → is_some found ≡ true → MatchOption found (o ≡ None) (λ r. o ≡ Some (P r)) → is_some o ≡ true
+some_at None o P some says = absurd (true≢false (sym some))
+some_at (Some x) o P some says = ap is_some says
+
 module _ {V : Type 0} where
   -- what was found for the move at a place
   found_at : (first : map_.FinMap nat_cmp V) (moves : List IdMove) (found : List (Option V)) (k : ℕ) (d : IdMove) (x : Option V) → k < length moves → found ≡ values_for first moves → x ≡ get_or found k x → x ≡ map_.get first (get_or moves k d).from
@@ -223,3 +228,27 @@ module _ {V : Type 0} where
       ap (λ m. meets_some first m rest) (put ∙ ap (put_if old move.to) (found_at first moves found k d x less is here))
       ∙ sym (ap (λ b. b || meets_some first (put_if old move.to (map_.get first move.from)) rest) none)
       ∙ sym (ap (meets_some first old) (moves_from moves k d less))
+
+  -- something is under its new id
+  pub meets_some_here : (first old : map_.FinMap nat_cmp V) (moves : List IdMove) (k : ℕ) (d : IdMove) → k < length moves → map_.contains_key old (get_or moves k d).to ≡ true → meets_some first old (drop k moves) ≡ true
+  meets_some_here first old moves k d less some =
+      let move = get_or moves k d in
+      ap (meets_some first old) (moves_from moves k d less) ∙ ap (λ b. b || meets_some first (put_if old move.to (map_.get first move.from)) (drop (k + 1) moves)) some
+
+  -- one more old id goes out
+  pub without_next : (old new : map_.FinMap nat_cmp V) (moves : List IdMove) (k : ℕ) (d : IdMove) → k < length moves → new ≡ map_.remove old (get_or moves k d).from → without_ids new (old_ids (drop (k + 1) moves)) ≡ without_ids old (old_ids (drop k moves))
+  without_next old new moves k d less gone = ap (λ m. without_ids m (old_ids (drop (k + 1) moves))) gone ∙ sym (ap (λ ms. without_ids old (old_ids ms)) (moves_from moves k d less))
+
+  -- something is under it
+  pub meets_none_next : (old new : map_.FinMap nat_cmp V) (moves : List IdMove) (k : ℕ) (d : IdMove) → k < length moves → new ≡ map_.remove old (get_or moves k d).from → map_.contains_key old (get_or moves k d).from ≡ true
+      → meets_none new (drop (k + 1) moves) ≡ meets_none old (drop k moves)
+  meets_none_next old new moves k d less gone some =
+      let move = get_or moves k d in
+      let rest = drop (k + 1) moves in
+      ap (λ m. meets_none m rest) gone ∙ sym (ap (λ b. not b || meets_none (map_.remove old move.from) rest) some) ∙ sym (ap (meets_none old) (moves_from moves k d less))
+
+  -- nothing is under it
+  pub meets_none_here : (old : map_.FinMap nat_cmp V) (moves : List IdMove) (k : ℕ) (d : IdMove) → k < length moves → map_.contains_key old (get_or moves k d).from ≡ false → meets_none old (drop k moves) ≡ true
+  meets_none_here old moves k d less none =
+      let move = get_or moves k d in
+      ap (meets_none old) (moves_from moves k d less) ∙ ap (λ b. not b || meets_none (map_.remove old move.from) (drop (k + 1) moves)) none
