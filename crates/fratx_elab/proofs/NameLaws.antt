@@ -1,5 +1,6 @@
 -- Ids that stand for themselves, and ids that are renamed one by one.
-use Rattle.std.proofs.Common.{◌≡◌, refl, sym, ap, ◌∙◌, subst, ℕ, ℤ, pos, List, [], ◌∷◌, map, filter_map, negsuc, Option, Some, None, is_some, IsTrue, false, true≢false, nat_abs, arith, ◌≢◌, ◌≤◌, ◌++◌, ◌+◌, ◌<◌, length, get_or, drop, drop-cons, add-one, append_assoc}
+use Rattle.std.proofs.Common.{◌≡◌, refl, sym, ap, ◌∙◌, subst, ℕ, ℤ, pos, List, [], ◌∷◌, map, filter_map, negsuc, zero, suc, set, take, Option, Some, None, is_some, IsTrue, false, true≢false, nat_abs, arith, ◌≢◌, ◌≤◌, ◌++◌, ◌+◌, ◌<◌, length, get_or, drop, drop-cons, add-one, append_assoc, append-nil}
+use Rattle.std.proofs.lemmas.List.{drop_all, drop_more, drop-set-lt, take_more_set}
 use Rattle.std.specs.List.{AllByRecursion, cons_option, list_any}
 use Rattle.cx_base.specs.Integers.{is_negative, sizes}
 use Rattle.cx_base.specs.Numbers.{AreStepIntegers}
@@ -68,3 +69,36 @@ proper_next (y ∷ hints) z some within (here, proper) = (here, proper_next hint
 pub named_as_live : (table : Table) (naming : Naming) → ((n : ℕ) → is_live table n ≡ is_some (stands_for naming n)) → (ids : List ℕ) → AreLive table ids → AreNamed naming ids
 named_as_live table naming keyed [] h = tt
 named_as_live table naming keyed (n ∷ ids) (here, h) = (sym (keyed n) ∙ here, named_as_live table naming keyed ids h)
+
+-- ---- hints that are renamed in their own list, of which the first `kept` are done and those from a place on wait
+
+-- the hints for what waits
+waiting_here : (naming : Naming) (hints : List ℤ) (place : ℕ) → place < length hints
+    → hints_for naming (sizes (drop place hints)) ≡ map pos (cons_option (stands_for naming (nat_abs (get_or hints place (pos 0)))) (filter_map (stands_for naming) (sizes (drop (place + 1) hints))))
+waiting_here naming hints place less = ap (λ (zs : List ℤ). hints_for naming (sizes zs)) (drop_more hints place (pos 0) less)
+
+pub renamed_in_place : (naming : Naming) (hints : List ℤ) (place kept p : ℕ) (whole : List ℤ) → place < length hints → kept ≤ place → Some p ≡ stands_for naming (nat_abs (get_or hints place (pos 0)))
+    → take kept hints ++ hints_for naming (sizes (drop place hints)) ≡ whole
+    → take (kept + 1) (set hints kept (pos p)) ++ hints_for naming (sizes (drop (place + 1) (set hints kept (pos p)))) ≡ whole
+renamed_in_place naming hints place kept p whole less before is so_far =
+    let done = take_more_set hints kept (pos p) (omega arith) in
+    let rest = drop-set-lt (place + 1) hints kept (pos p) (omega arith) in
+    (λ i. done i ++ hints_for naming (sizes (rest i)))
+    ∙ append_assoc (take kept hints) (pos p ∷ []) (hints_for naming (sizes (drop (place + 1) hints)))
+    ∙ ap (λ zs. take kept hints ++ zs) (ap (λ o. map pos (cons_option o (filter_map (stands_for naming) (sizes (drop (place + 1) hints))))) is ∙ sym (waiting_here naming hints place less)) ∙ so_far
+
+pub left_out_in_place : (naming : Naming) (hints : List ℤ) (place kept : ℕ) (whole : List ℤ) → place < length hints → None ≡ stands_for naming (nat_abs (get_or hints place (pos 0)))
+    → take kept hints ++ hints_for naming (sizes (drop place hints)) ≡ whole → take kept hints ++ hints_for naming (sizes (drop (place + 1) hints)) ≡ whole
+left_out_in_place naming hints place kept whole less is so_far =
+    ap (λ zs. take kept hints ++ zs) (ap (λ o. map pos (cons_option o (filter_map (stands_for naming) (sizes (drop (place + 1) hints))))) is ∙ sym (waiting_here naming hints place less)) ∙ so_far
+
+-- none waits
+pub all_renamed : (naming : Naming) (hints : List ℤ) (place kept : ℕ) (whole : List ℤ) → length hints ≤ place → take kept hints ++ hints_for naming (sizes (drop place hints)) ≡ whole → take kept hints ≡ whole
+all_renamed naming hints place kept whole past so_far =
+    sym (append-nil (take kept hints)) ∙ ap (λ (zs : List ℤ). take kept hints ++ hints_for naming (sizes zs)) (sym (drop_all place hints past)) ∙ so_far
+
+-- an integer that a step may have comes in the place of another
+pub proper_in_place : (hints : List ℤ) (k : ℕ) (z : ℤ) → z ≢ pos 0 → nat_abs z ≤ MAX_ID → AreStepIntegers hints → AreStepIntegers (set hints k z)
+proper_in_place [] k z some within proper = tt
+proper_in_place (y ∷ hints) zero z some within (here, proper) = ((some, within), proper)
+proper_in_place (y ∷ hints) (suc k) z some within (here, proper) = (here, proper_in_place hints k z some within proper)
