@@ -2,7 +2,7 @@
 ghost use Rattle.std.specs.Prelude.{◌≤◌, ◌^◌};
 
 use crate::desk::{AMPLE, Bounds, Ended, Task, run};
-use crate::expecting::{expect, expect_none, put_unless, run_task};
+use crate::expecting::{Case, expect, expect_all, put_unless, run_task};
 use crate::pigeons::WIDE;
 use cdcl_core::{SearchOutcome, solve_core};
 use cx_base::Formula;
@@ -12,28 +12,28 @@ use log_text::NoLog;
 use std::alloc::{AllocError, Global};
 
 /// A kind, a size and a seed, and the lines of their demonstration.
-type Shown = (&'static str, &'static str, &'static str, &'static str);
+struct Shown(&'static str, &'static str, &'static str, &'static str);
 
 static SHOWN: [Shown; 4] = [
-    (
+    Shown(
         "even",
         "4",
         "0",
         "c demo even 4 0\nc variables 4\nc clauses 4\nc parities 1\ns SATISFIABLE\nc values MEET\n",
     ),
-    (
+    Shown(
         "odd",
         "4",
         "0",
         "c demo odd 4 0\nc variables 5\nc clauses 8\nc parities 2\ns UNSATISFIABLE\nc proof VERIFIED\n",
     ),
-    (
+    Shown(
         "even",
         "60",
         "7",
         "c demo even 60 7\nc variables 60\nc clauses 60\nc parities 15\ns SATISFIABLE\nc values MEET\n",
     ),
-    (
+    Shown(
         "odd",
         "60",
         "7",
@@ -56,30 +56,23 @@ fn shows(shown: &Ended, lines: &str) -> bool {
         && !shown.proof().is_empty()
 }
 
-/// Writes how a demonstration ended, if it did not end so.
-fn put_other(alloc: Global, others: &mut String, case: &Shown) -> Result<(), AllocError> {
-    let (kind, size, seed, lines) = *case;
-    let task = Task {
-        line: &["cxsat", "demo", kind, size, seed],
-        formula: "",
-        second: "",
-    };
-    let shown = run_task(alloc, task, WIDE)?;
-    put_unless(alloc, others, task, &shown, shows(&shown, lines))
-}
-
-fn put_others(alloc: Global, others: &mut String, cases: &[Shown]) -> Result<(), AllocError> {
-    for case in cases {
-        put_other(alloc, others, case)?;
+impl Case for Shown {
+    fn put_other(&self, alloc: Global, others: &mut String) -> Result<(), AllocError> {
+        let line = ["cxsat", "demo", self.0, self.1, self.2];
+        let task = Task {
+            line: line.as_slice(),
+            formula: "",
+            second: "",
+        };
+        let shown = run_task(alloc, task, WIDE)?;
+        let is_right = shows(&shown, self.3);
+        put_unless(alloc, others, task, &shown, is_right)
     }
-    Ok(())
 }
 
 #[test]
 fn answers_are_shown(rt: HostRuntime) {
-    let mut others = String::new(rt.alloc());
-    let written = put_others(rt.alloc(), &mut others, &SHOWN);
-    expect_none(&rt, written, others.as_str());
+    expect_all(&rt, &SHOWN);
 }
 
 /// The length of a demonstration's log.

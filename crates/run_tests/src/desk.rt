@@ -1,5 +1,6 @@
 //! Runs of the program, each over a desk of its own with two files.
-ghost use Rattle.std.specs.Prelude.{◌≤◌};
+ghost use Rattle.std.specs.Prelude.{◌≤◌, IfOk};
+ghost use Rattle.cx_desk.specs.Memory.{outside_of};
 ghost use Rattle.solve_cli.specs.Commands.{Unasked};
 ghost use Rattle.solve_cli.specs.Steps.{HasNoProof};
 
@@ -24,42 +25,49 @@ pub(crate) const AMPLE: Bounds = Bounds {
     limit: u32::MAX,
 };
 
-/// What a run came to: its status, and the desk that it leaves.
+/// What a run came to: its status, what it wrote, and whether a call failed.
+// Not the desk itself: each function that owns one has more to drop.
 #[derive(Drop)]
 pub(crate) struct Ended {
     pub status: u8,
-    desk: MemDesk,
+    answer: Vec<u8>,
+    proof: Vec<u8>,
+    message: Vec<u8>,
+    /// Whether a read failed.
+    pub failed_to_read: bool,
+    /// Whether a write failed on the Answer or the Proof port.
+    pub failed_to_write: bool,
+    /// Whether a write failed on the Message port.
+    pub failed_to_tell: bool,
 }
 
 impl Ended {
+    /// What a run with this status leaves on its desk.
+    fn on(alloc: Global, desk: &MemDesk, status: u8) -> Result<Ended, AllocError> {
+        Ok(Ended {
+            status,
+            answer: Vec::from_slice(alloc, desk.written(Port::Answer))?,
+            proof: Vec::from_slice(alloc, desk.written(Port::Proof))?,
+            message: Vec::from_slice(alloc, desk.written(Port::Message))?,
+            failed_to_read: desk.read_faults() > 0,
+            failed_to_write: desk.write_faults() > 0,
+            failed_to_tell: desk.message_faults() > 0,
+        })
+    }
+
     /// What is on the Answer port.
     pub fn answer(&self) -> &[u8] {
-        self.desk.written(Port::Answer)
+        &self.answer
     }
 
     /// What is on the Proof port.
     pub fn proof(&self) -> &[u8] {
-        self.desk.written(Port::Proof)
+        &self.proof
     }
 
     /// What is on the Message port.
     pub fn message(&self) -> &[u8] {
-        self.desk.written(Port::Message)
-    }
-
-    /// Whether a read failed.
-    pub fn failed_to_read(&self) -> bool {
-        self.desk.read_faults() > 0
-    }
-
-    /// Whether a write failed on the Answer or the Proof port.
-    pub fn failed_to_write(&self) -> bool {
-        self.desk.write_faults() > 0
-    }
-
-    /// Whether a write failed on the Message port.
-    pub fn failed_to_tell(&self) -> bool {
-        self.desk.message_faults() > 0
+        &self.message
     }
 }
 
@@ -72,7 +80,7 @@ pub(crate) struct Task<'a> {
 }
 
 /// Which calls of the desk fail, by their numbers from 1.
-#[derive(Clone, Copy, Debug, Drop)]
+#[derive(Clone, Copy, Drop)]
 pub(crate) enum Failing {
     Once(u64),
     FromThereOn(u64),
@@ -145,7 +153,16 @@ pub(crate) fn status_over<D: Desk>(
     Ok(run_within(alloc, words, u64::from(limit), desk).code())
 }
 
-/// Runs a command line, from the program's name on, over these files.
+/// Runs a command line, from the program's name on, over a new desk.
+fn run_on(alloc: Global, mut desk: MemDesk, line: &[&str], limit: u32) -> Result<Ended, AllocError>
+    requires fresh { Unasked (outside_of desk).asked }
+    requires empty { HasNoProof (outside_of desk) }
+{
+    let status = status_over(alloc, line, limit, &mut desk)?;
+    Ended::on(alloc, &desk, status)
+}
+
+/// Runs a command line over these files.
 fn run_over(
     alloc: Global,
     files: Vec<NamedFile>,
@@ -155,9 +172,8 @@ fn run_over(
     requires { 1 ≤ bounds.piece }
 {
     let none = Vec::new(alloc);
-    let mut desk = MemDesk::make(alloc, files, rooms_of(bounds), bounds.piece, none)?;
-    let status = status_over(alloc, line, bounds.limit, &mut desk)?;
-    Ok(Ended { status, desk })
+    let desk = MemDesk::make(alloc, files, rooms_of(bounds), bounds.piece, none)?;
+    run_on(alloc, desk, line, bounds.limit)
 }
 
 /// Runs a command line, from the program's name on, over the files `f` and `s`.
@@ -188,6 +204,27 @@ pub(crate) fn run_on_input(
     run_over(alloc, files, line, bounds)
 }
 
+/// A desk with these files, whose calls fail so.
+fn failing_desk(
+    alloc: Global,
+    files: Vec<NamedFile>,
+    failing: Failing,
+) -> Result<MemDesk, AllocError>
+    ensures fresh { IfOk result (λ desk. Unasked (outside_of desk).asked) }
+    ensures empty { IfOk result (λ desk. HasNoProof (outside_of desk)) }
+{
+    match failing {
+        Failing::Once(call) => {
+            let calls = Vec::from_slice(alloc, &[call])?;
+            MemDesk::make(alloc, files, rooms_of(AMPLE), AMPLE.piece, calls)
+        }
+        Failing::FromThereOn(call) => {
+            let passes = call.saturating_sub(1);
+            MemDesk::make_fused(alloc, files, rooms_of(AMPLE), AMPLE.piece, passes)
+        }
+    }
+}
+
 /// Runs a task over a desk whose calls fail so.
 pub(crate) fn run_failing(
     alloc: Global,
@@ -195,17 +232,6 @@ pub(crate) fn run_failing(
     failing: Failing,
 ) -> Result<Ended, AllocError> {
     let files = files_of(alloc, task.formula, task.second.as_bytes())?;
-    let rooms = rooms_of(AMPLE);
-    let mut desk = match failing {
-        Failing::Once(call) => {
-            let calls = Vec::from_slice(alloc, &[call])?;
-            MemDesk::make(alloc, files, rooms, AMPLE.piece, calls)?
-        }
-        Failing::FromThereOn(call) => {
-            let passes = call.saturating_sub(1);
-            MemDesk::make_fused(alloc, files, rooms, AMPLE.piece, passes)?
-        }
-    };
-    let status = status_over(alloc, task.line, AMPLE.limit, &mut desk)?;
-    Ok(Ended { status, desk })
+    let desk = failing_desk(alloc, files, failing)?;
+    run_on(alloc, desk, task.line, AMPLE.limit)
 }

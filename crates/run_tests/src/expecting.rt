@@ -1,5 +1,5 @@
 //! Runs whose end is told beforehand: those that end otherwise are written into a text. Tests assert through the last
-//! functions, since a test without an assertion of its own takes a third of the proof.
+//! functions, since a test with no text and no assertion of its own takes a third of the proof.
 ghost use Rattle.std.specs.Prelude.{◌≤◌};
 
 use crate::desk::{AMPLE, Bounds, Ended, Task, run};
@@ -43,7 +43,7 @@ pub(crate) const MODEL: Judging = Judging {
 };
 
 /// How many bytes one call of a desk moves at most, where a task is run in pieces of any length.
-pub(crate) const PIECES: [usize; 4] = [1, 2, 3, 4096];
+pub(crate) static PIECES: [usize; 5] = [1, 2, 3, 7, 4096];
 
 /// These bounds with pieces of this length, or of one byte for a length of none.
 pub(crate) fn in_pieces(bounds: Bounds, piece: usize) -> Bounds
@@ -58,6 +58,9 @@ pub(crate) fn in_pieces(bounds: Bounds, piece: usize) -> Bounds
 /// A formula, a text that is refused over it, and the line that tells where or for what.
 pub(crate) type Refused = (&'static str, &'static str, &'static str);
 
+/// A formula that is refused, the status, and the line that tells why.
+pub(crate) type Offence = (&'static str, u8, &'static str);
+
 /// The words of a line, the most bytes that a text may have, and the status.
 pub(crate) type Row = (&'static [&'static str], u32, u8);
 
@@ -68,7 +71,7 @@ fn has_ended_so(ended: &Ended, end: End) -> bool {
         && ended.proof() == end.proof
 }
 
-fn put_port(alloc: Global, text: &mut String, bytes: &[u8]) -> Result<(), AllocError> {
+pub(crate) fn put_port(alloc: Global, text: &mut String, bytes: &[u8]) -> Result<(), AllocError> {
     let port = String::from_utf8_lossy(alloc, bytes)?;
     text.push_str(port.as_str())
 }
@@ -136,8 +139,8 @@ pub(crate) fn is_answered(
     status: u8,
     answer: &str,
 ) -> Result<bool, AllocError> {
-    for piece in PIECES {
-        if !is_answered_within(alloc, task, in_pieces(bounds, piece), status, answer)? {
+    for piece in &PIECES {
+        if !is_answered_within(alloc, task, in_pieces(bounds, *piece), status, answer)? {
             return Ok(false);
         }
     }
@@ -166,20 +169,18 @@ pub(crate) fn put_other_in_pieces(
     bounds: Bounds,
     end: End,
 ) -> Result<(), AllocError> {
-    for piece in PIECES {
-        put_other(alloc, others, task, in_pieces(bounds, piece), end)?;
+    for piece in &PIECES {
+        put_other(alloc, others, task, in_pieces(bounds, *piece), end)?;
     }
     Ok(())
 }
 
-/// As `put_other`, of a text that is to be refused for this cause, with no other line written anywhere, in pieces of this length.
+/// As `put_other_in_pieces`, of a text that is to be refused for this cause, with no other line written anywhere.
 pub(crate) fn put_other_refusal(
     alloc: Global,
     others: &mut String,
-    command: Judging,
-    (formula, second): (&str, &str),
-    cause: &str,
-    piece: usize,
+    command: &Judging,
+    (formula, second, cause): (&str, &str, &str),
 ) -> Result<(), AllocError> {
     let answer = format!(in alloc; "c {cause}\n{}\n", command.verdict)?;
     let task = Task {
@@ -193,33 +194,28 @@ pub(crate) fn put_other_refusal(
         message: "",
         proof: b"",
     };
-    put_other(alloc, others, task, in_pieces(AMPLE, piece), end)
+    put_other_in_pieces(alloc, others, task, AMPLE, end)
 }
 
-/// As `put_other_refusal`, in pieces of any length.
-fn put_other_refusal_in_pieces(
+/// As `put_other_in_pieces`, of a formula that a command is to refuse.
+fn put_other_offence(
     alloc: Global,
     others: &mut String,
-    command: Judging,
-    case: &Refused,
+    line: &[&str],
+    (formula, status, message): Offence,
 ) -> Result<(), AllocError> {
-    for piece in PIECES {
-        put_other_refusal(alloc, others, command, (case.0, case.1), case.2, piece)?;
-    }
-    Ok(())
-}
-
-/// As `put_other_refusal_in_pieces`, of each of these texts.
-pub(crate) fn put_other_refusals(
-    alloc: Global,
-    others: &mut String,
-    command: Judging,
-    cases: &[Refused],
-) -> Result<(), AllocError> {
-    for case in cases {
-        put_other_refusal_in_pieces(alloc, others, command, case)?;
-    }
-    Ok(())
+    let task = Task {
+        line,
+        formula,
+        second: "",
+    };
+    let end = End {
+        status,
+        answer: "",
+        message,
+        proof: b"",
+    };
+    put_other_in_pieces(alloc, others, task, AMPLE, end)
 }
 
 /// Writes how the run ended, if its status is another one.
@@ -239,15 +235,74 @@ fn put_other_status(
     put_unless(alloc, others, task, &ended, ended.status == status)
 }
 
-/// As `put_other_status`, of each of these lines.
-pub(crate) fn put_other_statuses(
-    alloc: Global,
-    others: &mut String,
-    texts: (&str, &str),
-    rows: &[Row],
-) -> Result<(), AllocError> {
-    for row in rows {
-        put_other_status(alloc, others, texts, row)?;
+/// What a test runs, and how that is to end.
+pub(crate) trait Case {
+    /// Writes how it ended, if that is another end.
+    fn put_other(&self, alloc: Global, others: &mut String) -> Result<(), AllocError>;
+}
+
+/// A run, in pieces of any length.
+pub(crate) struct Run {
+    pub task: Task<'static>,
+    pub bounds: Bounds,
+    pub end: End<'static>,
+}
+
+impl Case for Run {
+    fn put_other(&self, alloc: Global, others: &mut String) -> Result<(), AllocError> {
+        put_other_in_pieces(alloc, others, self.task, self.bounds, self.end)
+    }
+}
+
+/// Texts that a command refuses.
+pub(crate) struct Refusals {
+    pub command: Judging,
+    pub texts: &'static [Refused],
+}
+
+impl Case for Refusals {
+    fn put_other(&self, alloc: Global, others: &mut String) -> Result<(), AllocError> {
+        for text in self.texts {
+            put_other_refusal(alloc, others, &self.command, *text)?;
+        }
+        Ok(())
+    }
+}
+
+/// Lines over a formula and a second text, each with its status.
+pub(crate) struct Lines {
+    pub texts: (&'static str, &'static str),
+    pub rows: &'static [Row],
+}
+
+impl Case for Lines {
+    fn put_other(&self, alloc: Global, others: &mut String) -> Result<(), AllocError> {
+        for row in self.rows {
+            put_other_status(alloc, others, self.texts, row)?;
+        }
+        Ok(())
+    }
+}
+
+/// Formulas that a command refuses.
+#[derive(Drop)]
+pub(crate) struct Offences {
+    pub line: &'static [&'static str],
+    pub formulas: &'static [Offence],
+}
+
+impl Case for Offences {
+    fn put_other(&self, alloc: Global, others: &mut String) -> Result<(), AllocError> {
+        for formula in self.formulas {
+            put_other_offence(alloc, others, self.line, *formula)?;
+        }
+        Ok(())
+    }
+}
+
+fn put_others<C: Case>(alloc: Global, others: &mut String, cases: &[C]) -> Result<(), AllocError> {
+    for case in cases {
+        case.put_other(alloc, others)?;
     }
     Ok(())
 }
@@ -270,7 +325,14 @@ pub(crate) fn expect<T: PartialEq + Debug + Drop>(
 }
 
 /// Fails if others are written, and says which, or if they were not all written.
-pub(crate) fn expect_none(rt: &impl Abort, written: Result<(), AllocError>, others: &str) {
+fn expect_none(rt: &impl Abort, written: Result<(), AllocError>, others: &str) {
     expect(rt, written, &());
     expect_equal(rt, &others, &"");
+}
+
+/// Fails unless each case ends as it is to, and says how others end.
+pub(crate) fn expect_all<C: Case, R: Abort + AllocGlobal>(rt: &R, cases: &[C]) {
+    let mut others = String::new(rt.alloc());
+    let written = put_others(rt.alloc(), &mut others, cases);
+    expect_none(rt, written, others.as_str());
 }

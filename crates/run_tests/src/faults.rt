@@ -1,53 +1,58 @@
 //! Runs whose calls of the desk fail, one or all from some number on, and runs over a text without an end.
-use crate::desk::{AMPLE, Ended, Failing, Task, run, run_failing, status_over};
+use crate::desk::{AMPLE, Ended, Failing, Task, run_failing, status_over};
 use crate::elab::SQUARE_LOG;
-use crate::expecting::{expect, expect_none};
+use crate::expecting::{Case, expect, expect_all, run_task};
 use crate::formulas::{SQUARE, TRIANGLE};
 use cx_desk::RepeatDesk;
 use std::alloc::{AllocError, Global};
 
-/// The commands whose calls fail, each with what its run comes to where none does.
-static TASKS: [(Task<'static>, u8); 5] = [
-    (
-        Task {
+/// A task whose calls fail in turn, and the status of its run where none does.
+pub(crate) struct InTurn {
+    pub task: Task<'static>,
+    pub status: u8,
+}
+
+static TASKS: [InTurn; 5] = [
+    InTurn {
+        task: Task {
             line: &["cxsat", "solve", "f"],
             formula: "p cnf 2 2\nx1 2 0\n1 0\n",
             second: "",
         },
-        10,
-    ),
-    (
-        Task {
+        status: 10,
+    },
+    InTurn {
+        task: Task {
             line: &["cxsat", "solve", "f", "--proof", "l"],
             formula: TRIANGLE,
             second: "",
         },
-        20,
-    ),
-    (
-        Task {
+        status: 20,
+    },
+    InTurn {
+        task: Task {
             line: &["cxsat", "check", "f", "s"],
             formula: SQUARE,
             second: "5 2 0 1 2 0\n6 0 5 3 4 0\n",
         },
-        0,
-    ),
-    (
-        Task {
+        status: 0,
+    },
+    InTurn {
+        task: Task {
             line: &["cxsat", "elab", "f", "s", "p"],
             formula: SQUARE,
             second: SQUARE_LOG,
         },
-        0,
-    ),
-    (
-        Task {
+        status: 0,
+    },
+    InTurn {
+        task: Task {
             line: &["cxsat", "check", "f", "s"],
             formula: "p cnf 2 1\n1 2",
             second: "",
         },
-        3,
-    ),
+        status: 3,
+    },
 ];
 
 /// What a run leaves is a prefix of what the whole run leaves.
@@ -102,10 +107,10 @@ fn fault(failed: &Ended, whole: &Ended) -> &'static str {
     if !is_front(failed.answer(), whole.answer()) {
         return "answer is no front";
     }
-    if failed.failed_to_read() {
+    if failed.failed_to_read {
         return fault_of_reading(failed);
     }
-    if failed.failed_to_write() {
+    if failed.failed_to_write {
         return fault_of_writing(failed, whole);
     }
     fault_of_telling(failed, whole)
@@ -113,12 +118,11 @@ fn fault(failed: &Ended, whole: &Ended) -> &'static str {
 
 /// Whether a call of the run failed.
 fn has_failed(run: &Ended) -> bool {
-    run.failed_to_read() || run.failed_to_write() || run.failed_to_tell()
+    run.failed_to_read || run.failed_to_write || run.failed_to_tell
 }
 
 /// Writes what is wrong with a run some of whose calls failed, beside the one where none did.
 fn put_fault_of(
-    alloc: Global,
     faults: &mut String,
     failing: Failing,
     failed: &Ended,
@@ -128,9 +132,11 @@ fn put_fault_of(
     if fault.is_empty() {
         return Ok(());
     }
-    let status = failed.status;
-    let told = format!(in alloc; "{failing:?}: {fault}, status {status}\n")?;
-    faults.push_str(told.as_str())
+    let (calls, call) = match failing {
+        Failing::Once(call) => ("call", call),
+        Failing::FromThereOn(call) => ("calls from", call),
+    };
+    writeln!(faults, "{calls} {call}: {fault}, status {}", failed.status)
 }
 
 /// Lets calls of a task fail. Writes what is wrong then. Says whether a call failed.
@@ -142,7 +148,7 @@ fn put_fault(
     whole: &Ended,
 ) -> Result<bool, AllocError> {
     let failed = run_failing(alloc, task, failing)?;
-    put_fault_of(alloc, faults, failing, &failed, whole)?;
+    put_fault_of(faults, failing, &failed, whole)?;
     Ok(has_failed(&failed))
 }
 
@@ -181,60 +187,37 @@ fn fail_in_turn(
 fn put_faults_beside(
     alloc: Global,
     faults: &mut String,
-    (task, status): (Task, u8),
+    case: &InTurn,
     whole: &Ended,
 ) -> Result<(), AllocError> {
-    if whole.status != status {
+    if whole.status != case.status {
         faults.push_str("another status of the whole run\n")?;
     }
-    let calls = fail_in_turn(alloc, faults, task, whole)?;
+    let calls = fail_in_turn(alloc, faults, case.task, whole)?;
     if calls > 5 && calls < 1000 {
         return Ok(());
     }
-    let told = format!(in alloc; "{calls} calls\n")?;
-    faults.push_str(told.as_str())
+    writeln!(faults, "{calls} calls")
 }
 
-/// As `put_faults_beside`, for one task, whose whole run is made first.
-fn put_faults(
-    alloc: Global,
-    faults: &mut String,
-    (task, status): (Task, u8),
-) -> Result<(), AllocError> {
-    let whole = run(
-        alloc,
-        task.formula,
-        task.second.as_bytes(),
-        task.line,
-        AMPLE,
-    )?;
-    put_faults_beside(alloc, faults, (task, status), &whole)
-}
-
-/// As `put_faults`, for each of the tasks.
-pub(crate) fn put_faults_of_all(
-    alloc: Global,
-    faults: &mut String,
-    tasks: &[(Task, u8)],
-) -> Result<(), AllocError> {
-    for task in tasks {
-        put_faults(alloc, faults, *task)?;
+impl Case for InTurn {
+    fn put_other(&self, alloc: Global, others: &mut String) -> Result<(), AllocError> {
+        let whole = run_task(alloc, self.task, AMPLE)?;
+        put_faults_beside(alloc, others, self, &whole)
     }
-    Ok(())
 }
 
 #[test]
 fn each_call_fails_in_turn(rt: HostRuntime) {
-    let mut faults = String::new(rt.alloc());
-    let written = put_faults_of_all(rt.alloc(), &mut faults, &TASKS);
-    expect_none(&rt, written, faults.as_str());
+    expect_all(&rt, &TASKS);
 }
+
+static CHECK: [&str; 4] = ["cxsat", "check", "f", "s"];
 
 /// The status of the check of a text without an end, and whether at most 101 bytes are read of it.
 fn read_endless(alloc: Global) -> Result<(u8, bool), AllocError> {
     let mut desk = RepeatDesk::make(b' ');
-    let line = ["cxsat", "check", "f", "s"];
-    let status = status_over(alloc, line.as_slice(), 100, &mut desk)?;
+    let status = status_over(alloc, &CHECK, 100, &mut desk)?;
     Ok((status, desk.taken() <= 101))
 }
 

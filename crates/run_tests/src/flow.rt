@@ -3,7 +3,7 @@ ghost use Rattle.std.specs.Prelude.{◌≤◌};
 
 use crate::desk::{AMPLE, Bounds, Ended, run};
 use crate::elab::{SQUARE_LOG, SQUARE_LOG_WITH_IDLE_STEPS};
-use crate::expecting::{PIECES, expect, in_pieces};
+use crate::expecting::{PIECES, answers, expect, in_pieces};
 use crate::formulas::{SQUARE, TRIANGLE, TRIANGLE_OF_CLAUSES};
 use std::alloc::{AllocError, Global};
 
@@ -28,13 +28,20 @@ const CIRCLE: &str = "p cnf 5 6\nx1 2 0\nx2 3 0\nx3 4 0\nx4 5 0\n1 5 0\n-1 -5 0\
 /// A refuted formula that uses two of its variables.
 const SQUARE_AMONG_MANY: &str = "p cnf 2000000 4\n1 2 0\n-1 2 0\n1 -2 0\n-1 -2 0\n";
 
+static SOLVE: [&str; 5] = ["cxsat", "solve", "f", "--proof", "l"];
+
+static CHECK: [&str; 4] = ["cxsat", "check", "f", "s"];
+
+static ELAB: [&str; 5] = ["cxsat", "elab", "f", "s", "p"];
+
+static MODEL: [&str; 4] = ["cxsat", "model", "f", "s"];
+
 /// Whether the check of this proof verifies it.
 fn verifies(alloc: Global, formula: &str, proof: &[u8], bounds: Bounds) -> Result<bool, AllocError>
     requires { 1 ≤ bounds.piece }
 {
-    let line = ["cxsat", "check", "f", "s"];
-    let checked = run(alloc, formula, proof, line.as_slice(), bounds)?;
-    Ok(checked.status == 0 && checked.answer() == b"s VERIFIED\n".as_slice())
+    let checked = run(alloc, formula, proof, &CHECK, bounds)?;
+    Ok(answers(&checked, 0, "s VERIFIED\n"))
 }
 
 /// Whether the log is elaborated, and the proof that is made of it verified.
@@ -46,23 +53,21 @@ pub(crate) fn proves(
 ) -> Result<bool, AllocError>
     requires { 1 ≤ bounds.piece }
 {
-    let line = ["cxsat", "elab", "f", "s", "p"];
-    let elaborated = run(alloc, formula, log, line.as_slice(), bounds)?;
-    if elaborated.status != 0 || elaborated.answer() != b"s ELABORATED\n".as_slice() {
+    let elaborated = run(alloc, formula, log, &ELAB, bounds)?;
+    if !answers(&elaborated, 0, "s ELABORATED\n") {
         return Ok(false);
     }
     verifies(alloc, formula, elaborated.proof(), bounds)
 }
 
 fn solved(alloc: Global, formula: &str) -> Result<Ended, AllocError> {
-    let line = ["cxsat", "solve", "f", "--proof", "l"];
-    run(alloc, formula, b"", line.as_slice(), AMPLE)
+    run(alloc, formula, b"", &SOLVE, AMPLE)
 }
 
 /// Whether the log becomes a proof in pieces of any length.
 fn proves_in_pieces(alloc: Global, formula: &str, log: &str) -> Result<bool, AllocError> {
-    for piece in PIECES {
-        if !proves(alloc, formula, log.as_bytes(), in_pieces(AMPLE, piece))? {
+    for piece in &PIECES {
+        if !proves(alloc, formula, log.as_bytes(), in_pieces(AMPLE, *piece))? {
             return Ok(false);
         }
     }
@@ -117,8 +122,7 @@ fn status_of_values(alloc: Global, formula: &str, met: &Ended) -> Result<u8, All
     if met.status != 10 {
         return Ok(met.status);
     }
-    let line = ["cxsat", "model", "f", "s"];
-    let judged = run(alloc, formula, met.answer(), line.as_slice(), AMPLE)?;
+    let judged = run(alloc, formula, met.answer(), &MODEL, AMPLE)?;
     Ok(judged.status)
 }
 

@@ -1,8 +1,6 @@
 //! Whole runs over desks that move one, two, three or many bytes at a time.
-ghost use Rattle.std.specs.Prelude.{◌≤◌};
-
 use crate::desk::{AMPLE, Bounds, Ended, run};
-use crate::expecting::expect;
+use crate::expecting::{Case, PIECES, expect_all, in_pieces, put_port};
 use crate::formulas::{EMPTY, SQUARE, TRIANGLE};
 use std::alloc::{AllocError, Global};
 
@@ -25,15 +23,9 @@ enum Shown {
 }
 
 /// What a row comes to in pieces of this length.
-fn ended(alloc: Global, row: &Row, piece: usize) -> Result<Ended, AllocError>
-    requires { 1 ≤ piece }
-{
+fn ended(alloc: Global, row: &Row, piece: usize) -> Result<Ended, AllocError> {
     let (line, formula, second, limit) = *row;
-    let bounds = Bounds {
-        piece,
-        limit,
-        ..AMPLE
-    };
+    let bounds = in_pieces(Bounds { limit, ..AMPLE }, piece);
     run(alloc, formula, second.as_bytes(), line, bounds)
 }
 
@@ -57,9 +49,7 @@ fn put_row(
     row: &Row,
     shown: Shown,
     piece: usize,
-) -> Result<(), AllocError>
-    requires { 1 ≤ piece }
-{
+) -> Result<(), AllocError> {
     let ended = ended(alloc, row, piece)?;
     put(alloc, all, &ended, shown)
 }
@@ -70,109 +60,113 @@ fn put_rows(
     rows: &[Row],
     shown: Shown,
     piece: usize,
-) -> Result<(), AllocError>
-    requires { 1 ≤ piece }
-{
+) -> Result<(), AllocError> {
     for row in rows {
         put_row(alloc, all, row, shown, piece)?;
     }
     Ok(())
 }
 
-/// Whether this is told of the rows in pieces of this length.
-fn are_told(
-    alloc: Global,
-    rows: &[Row],
+/// Rows, and what is to be told of them.
+struct Told {
+    rows: &'static [Row],
     shown: Shown,
+    wanted: &'static [u8],
+}
+
+/// Writes what is told of the rows in pieces of this length, if it is not so.
+fn put_other_told(
+    alloc: Global,
+    others: &mut String,
+    told: &Told,
     piece: usize,
-    wanted: &[u8],
-) -> Result<bool, AllocError>
-    requires { 1 ≤ piece }
-{
+) -> Result<(), AllocError> {
     let mut all = Vec::new(alloc);
-    put_rows(alloc, &mut all, rows, shown, piece)?;
-    Ok(all.as_slice() == wanted)
+    put_rows(alloc, &mut all, told.rows, told.shown, piece)?;
+    if all.as_slice() == told.wanted {
+        return Ok(());
+    }
+    put_port(alloc, others, &all)
 }
 
-/// Whether this is told of the rows in pieces of one, two, three and many bytes.
-fn told_so(
-    alloc: Global,
-    rows: &[Row],
-    shown: Shown,
-    wanted: &[u8],
-) -> Result<[bool; 4], AllocError> {
-    let one = are_told(alloc, rows, shown, 1, wanted)?;
-    let two = are_told(alloc, rows, shown, 2, wanted)?;
-    let three = are_told(alloc, rows, shown, 3, wanted)?;
-    let many = are_told(alloc, rows, shown, 4096, wanted)?;
-    Ok([one, two, three, many])
+impl Case for Told {
+    fn put_other(&self, alloc: Global, others: &mut String) -> Result<(), AllocError> {
+        for piece in &PIECES {
+            put_other_told(alloc, others, self, *piece)?;
+        }
+        Ok(())
+    }
 }
 
-static ROWS: [Row; 9] = [
-    (CHECK, TRIANGLE, "c a\nx 4 0 1 2 3 0\ni 1 0 4 0", 100),
-    (CHECK, SQUARE, "5 2 0 1 2 0\n6 0 5 3 4 zzz\n", 100),
-    (CHECK, SQUARE, "5 2 0 1\n", 100),
-    (
-        ELAB,
-        SQUARE,
-        "o 10 1 2 0\no 11 -1 2 0\na 20 2 0\na 21 0\n",
-        100,
-    ),
-    (SOLVE, TRIANGLE, "", 100),
-    (SOLVE, "c b\r\np cnf 2 2\r\nx-1 2 0\n1 0\n%\n0", "", 100),
-    (SOLVE, "p cnf 2 2\n1 2 0\n1 x2 0\n", "", 100),
-    (SOLVE, "p cnf 2 2\nx1 2 0\n1 0\n", "", 21),
-    (SOLVE, "p cnf 2 2\nx1 2 0\n1 0\n", "", 20),
-];
+static TOLD: [Told; 1] = [Told {
+    rows: &[
+        (CHECK, TRIANGLE, "c a\nx 4 0 1 2 3 0\ni 1 0 4 0", 100),
+        (CHECK, SQUARE, "5 2 0 1 2 0\n6 0 5 3 4 zzz\n", 100),
+        (CHECK, SQUARE, "5 2 0 1\n", 100),
+        (
+            ELAB,
+            SQUARE,
+            "o 10 1 2 0\no 11 -1 2 0\na 20 2 0\na 21 0\n",
+            100,
+        ),
+        (SOLVE, TRIANGLE, "", 100),
+        (SOLVE, "c b\r\np cnf 2 2\r\nx-1 2 0\n1 0\n%\n0", "", 100),
+        (SOLVE, "p cnf 2 2\n1 2 0\n1 x2 0\n", "", 100),
+        (SOLVE, "p cnf 2 2\nx1 2 0\n1 0\n", "", 21),
+        (SOLVE, "p cnf 2 2\nx1 2 0\n1 0\n", "", 20),
+    ],
+    shown: Shown::End,
+    wanted: b"0 s VERIFIED\n7 c step 2 P0 at byte 22\ns NOT VERIFIED\n7 c step 1 P0 at byte 8\ns NOT VERIFIED\n8 c step 4 E5\ns NOT ELABORATED\n20 s UNSATISFIABLE\n10 s SATISFIABLE\nv 1 2 0\n3 error: formula F3 at byte 18\n10 s SATISFIABLE\nv 1 -2 0\n9 error: limit L2 formula\n",
+}];
 
 #[test]
 fn pieces_of_any_length_end_the_same(rt: HostRuntime) {
-    let wanted =
-        b"0 s VERIFIED\n7 c step 2 P0 at byte 22\ns NOT VERIFIED\n7 c step 1 P0 at byte 8\ns NOT VERIFIED\n8 c step 4 E5\ns NOT ELABORATED\n20 s UNSATISFIABLE\n10 s SATISFIABLE\nv 1 2 0\n3 error: formula F3 at byte 18\n10 s SATISFIABLE\nv 1 -2 0\n9 error: limit L2 formula\n".as_slice();
-    let told = told_so(rt.alloc(), &ROWS, Shown::End, wanted);
-    expect(&rt, told, &[true; 4]);
+    expect_all(&rt, &TOLD);
 }
 
-static ROWS_WITH_MORE: [Row; 10] = [
-    (CHECK, SQUARE, "5 2 0 1 2 0\n6 0 5 3 4 0\nzzz\n", 38),
-    (CHECK, SQUARE, "5 2 0 1 2 0\n6 0 5 3 4 0\nzzz\n", 37),
-    (CHECK, EMPTY, "2 0 1 0\nzzz\n", 12),
-    (CHECK, EMPTY, "2 0 1 0\nzzzz\n", 12),
-    (CHECK, EMPTY, "2 zz\nzzzzzz\n", 12),
-    (CHECK, EMPTY, "2 zz\nzzzzzzz\n", 12),
-    (ELAB, EMPTY, "o 1 0\na 2 0\nzzz\n", 16),
-    (ELAB, EMPTY, "o 1 0\na 2 0\nzzzz\n", 16),
-    (ELAB, EMPTY, "z 1 0\nzzzzzzzzz\n", 16),
-    (ELAB, EMPTY, "z 1 0\nzzzzzzzzzz\n", 16),
-];
+static TOLD_WITH_MORE: [Told; 1] = [Told {
+    rows: &[
+        (CHECK, SQUARE, "5 2 0 1 2 0\n6 0 5 3 4 0\nzzz\n", 38),
+        (CHECK, SQUARE, "5 2 0 1 2 0\n6 0 5 3 4 0\nzzz\n", 37),
+        (CHECK, EMPTY, "2 0 1 0\nzzz\n", 12),
+        (CHECK, EMPTY, "2 0 1 0\nzzzz\n", 12),
+        (CHECK, EMPTY, "2 zz\nzzzzzz\n", 12),
+        (CHECK, EMPTY, "2 zz\nzzzzzzz\n", 12),
+        (ELAB, EMPTY, "o 1 0\na 2 0\nzzz\n", 16),
+        (ELAB, EMPTY, "o 1 0\na 2 0\nzzzz\n", 16),
+        (ELAB, EMPTY, "z 1 0\nzzzzzzzzz\n", 16),
+        (ELAB, EMPTY, "z 1 0\nzzzzzzzzzz\n", 16),
+    ],
+    shown: Shown::End,
+    wanted: b"0 s VERIFIED\n9 error: limit L2 formula\n0 s VERIFIED\n9 error: limit L2 second\n7 c step 1 P0 at byte 2\ns NOT VERIFIED\n9 error: limit L2 second\n0 s ELABORATED\n9 error: limit L2 second\n8 c step 1 E0 at byte 0\ns NOT ELABORATED\n9 error: limit L2 second\n",
+}];
 
 #[test]
 fn what_stands_behind_the_last_step_counts(rt: HostRuntime) {
-    let wanted =
-        b"0 s VERIFIED\n9 error: limit L2 formula\n0 s VERIFIED\n9 error: limit L2 second\n7 c step 1 P0 at byte 2\ns NOT VERIFIED\n9 error: limit L2 second\n0 s ELABORATED\n9 error: limit L2 second\n8 c step 1 E0 at byte 0\ns NOT ELABORATED\n9 error: limit L2 second\n".as_slice();
-    let told = told_so(rt.alloc(), &ROWS_WITH_MORE, Shown::End, wanted);
-    expect(&rt, told, &[true; 4]);
+    expect_all(&rt, &TOLD_WITH_MORE);
 }
 
-static PRINTED: [Row; 3] = [
-    (
-        ELAB,
-        SQUARE,
-        "o 10 1 2 0\no 11 -1 2 0\no 12 1 -2 0\no 13 -1 -2 0\na 20 2 0 l 10 11 0\na 21 0 l 20 12 13 0\n",
-        100,
-    ),
-    (
-        ELAB,
-        SQUARE,
-        "o 10 1 2 0\no 11 -1 2 0\no 12 1 -2 0\no 13 -1 -2 0\na 20 2 0 l 10 11 0\na 21 1 2 0 l 99\n",
-        100,
-    ),
-    (ELAB, EMPTY, "o 1 0\na 2 0\nzzz\n", 16),
-];
+static PRINTED: [Told; 1] = [Told {
+    rows: &[
+        (
+            ELAB,
+            SQUARE,
+            "o 10 1 2 0\no 11 -1 2 0\no 12 1 -2 0\no 13 -1 -2 0\na 20 2 0 l 10 11 0\na 21 0 l 20 12 13 0\n",
+            100,
+        ),
+        (
+            ELAB,
+            SQUARE,
+            "o 10 1 2 0\no 11 -1 2 0\no 12 1 -2 0\no 13 -1 -2 0\na 20 2 0 l 10 11 0\na 21 1 2 0 l 99\n",
+            100,
+        ),
+        (ELAB, EMPTY, "o 1 0\na 2 0\nzzz\n", 16),
+    ],
+    shown: Shown::Proof,
+    wanted: b"5 2 0 1 2 0\n6 0 5 3 4 0\n5 2 0 1 2 0\n2 0 1 0\n",
+}];
 
 #[test]
 fn pieces_of_any_length_are_printed_the_same(rt: HostRuntime) {
-    let wanted = b"5 2 0 1 2 0\n6 0 5 3 4 0\n5 2 0 1 2 0\n2 0 1 0\n".as_slice();
-    let told = told_so(rt.alloc(), &PRINTED, Shown::Proof, wanted);
-    expect(&rt, told, &[true; 4]);
+    expect_all(&rt, &PRINTED);
 }

@@ -17,34 +17,34 @@ fn variable(holes: u8, pigeon: u8, hole: u8) -> u32 {
 }
 
 /// The clause that a pigeon is in some hole.
-fn put_pigeon(alloc: Global, text: &mut String, holes: u8, pigeon: u8) -> Result<(), AllocError> {
+fn put_pigeon(text: &mut String, holes: u8, pigeon: u8) -> Result<(), AllocError> {
     for hole in 1..=holes {
-        let variable = variable(holes, pigeon, hole);
-        text.push_str(format!(in alloc; "{variable} ")?.as_str())?;
+        write!(text, "{} ", variable(holes, pigeon, hole))?;
     }
     text.push_str("0\n")
 }
 
 /// The clauses that a pigeon and each one before it are not in the same hole.
-fn put_hole(
-    alloc: Global,
-    text: &mut String,
-    holes: u8,
-    pigeon: u8,
-    hole: u8,
-) -> Result<(), AllocError> {
+fn put_hole(text: &mut String, holes: u8, pigeon: u8, hole: u8) -> Result<(), AllocError> {
     let mine = variable(holes, pigeon, hole);
     for other in 1..pigeon {
-        let other = variable(holes, other, hole);
-        text.push_str(format!(in alloc; "-{other} -{mine} 0\n")?.as_str())?;
+        writeln!(text, "-{} -{mine} 0", variable(holes, other, hole))?;
     }
     Ok(())
 }
 
 /// The clauses of a pigeon and those before it in all holes.
-fn put_holes(alloc: Global, text: &mut String, holes: u8, pigeon: u8) -> Result<(), AllocError> {
+fn put_holes(text: &mut String, holes: u8, pigeon: u8) -> Result<(), AllocError> {
     for hole in 1..=holes {
-        put_hole(alloc, text, holes, pigeon, hole)?;
+        put_hole(text, holes, pigeon, hole)?;
+    }
+    Ok(())
+}
+
+fn put_pigeons(text: &mut String, holes: u8) -> Result<(), AllocError> {
+    for pigeon in 1..=holes.saturating_add(1) {
+        put_pigeon(text, holes, pigeon)?;
+        put_holes(text, holes, pigeon)?;
     }
     Ok(())
 }
@@ -55,10 +55,7 @@ fn pigeonholes(alloc: Global, holes: u8) -> Result<String, AllocError> {
     let (pigeons, pairs) = (many + 1, many * (many + 1) / 2);
     let (variables, clauses) = (many * pigeons, pigeons + many * pairs);
     let mut text = format!(in alloc; "p cnf {variables} {clauses}\n")?;
-    for pigeon in 1..=holes.saturating_add(1) {
-        put_pigeon(alloc, &mut text, holes, pigeon)?;
-        put_holes(alloc, &mut text, holes, pigeon)?;
-    }
+    put_pigeons(&mut text, holes)?;
     Ok(text)
 }
 
@@ -94,23 +91,30 @@ fn is_refuted_or_spent(alloc: Global, formula: &str, solved: &Ended) -> Result<b
     Ok(solved.status == 0 && ends_with_mark(solved.proof(), "c conflict 6000\n"))
 }
 
-/// Whether the search over this many holes ends so.
-fn refutes_or_spends(alloc: Global, holes: u8) -> Result<bool, AllocError> {
+static TO_A_BUDGET: [&str; 7] = ["cxsat", "solve", "f", "--proof", "l", "--conflicts", "6000"];
+
+/// Whether the search ends so.
+fn refutes_or_spends(alloc: Global, formula: &str) -> Result<bool, AllocError> {
+    let solved = run(alloc, formula, b"", &TO_A_BUDGET, WIDE)?;
+    is_refuted_or_spent(alloc, formula, &solved)
+}
+
+/// As `refutes_or_spends`, over this many holes.
+fn refutes_or_spends_holes(alloc: Global, holes: u8) -> Result<bool, AllocError> {
     let formula = pigeonholes(alloc, holes)?;
-    let line = ["cxsat", "solve", "f", "--proof", "l", "--conflicts", "6000"];
-    let solved = run(alloc, formula.as_str(), b"", line.as_slice(), WIDE)?;
-    is_refuted_or_spent(alloc, formula.as_str(), &solved)
+    refutes_or_spends(alloc, formula.as_str())
 }
 
 #[test]
 fn eight_pigeons_are_refuted_or_the_budget_is_spent(rt: HostRuntime) {
-    expect(&rt, refutes_or_spends(rt.alloc(), 7), &true);
+    expect(&rt, refutes_or_spends_holes(rt.alloc(), 7), &true);
 }
+
+static TO_A_WIDE_BUDGET: [&str; 5] = ["cxsat", "solve", "f", "--conflicts", "100000"];
 
 /// The status of a search over this many holes, with a budget that is not spent.
 fn status_over(alloc: Global, holes: u8) -> Result<u8, AllocError> {
-    let line = ["cxsat", "solve", "f", "--conflicts", "100000"];
-    let solved = run_over_pigeons(alloc, holes, line.as_slice())?;
+    let solved = run_over_pigeons(alloc, holes, &TO_A_WIDE_BUDGET)?;
     Ok(solved.status)
 }
 

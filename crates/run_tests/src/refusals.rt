@@ -1,11 +1,10 @@
 //! Formulas, texts and words that are refused, each with its status, place and line.
 use crate::desk::{AMPLE, Bounds, Task};
-use crate::expecting::{CHECK, End, Row, expect_none, put_other_in_pieces, put_other_statuses};
+use crate::expecting::{Case, End, Lines, Offence, Offences, expect_all, put_other_in_pieces};
 use crate::formulas::EMPTY;
 use std::alloc::{AllocError, Global};
 
-/// A formula, the status with which it is refused, and the line that tells why.
-type Offence = (&'static str, u8, &'static str);
+const CHECK: &[&str] = &["cxsat", "check", "f", "s"];
 
 static OFFENCES: [Offence; 13] = [
     ("", 3, "error: formula F1 at byte 0\n"),
@@ -35,120 +34,86 @@ static OFFENCES: [Offence; 13] = [
     ("p cnf 268435456 0\n", 9, "error: limit L1 at byte 6\n"),
 ];
 
-/// Writes how a command over the formula ends, if it does not refuse it so.
-fn put_other_offence(
-    alloc: Global,
-    others: &mut String,
-    line: &[&str],
-    (formula, status, message): Offence,
-) -> Result<(), AllocError> {
-    let task = Task {
-        line,
-        formula,
-        second: "",
-    };
-    let end = End {
-        status,
-        answer: "",
-        message,
-        proof: b"",
-    };
-    put_other_in_pieces(alloc, others, task, AMPLE, end)
-}
-
-/// As `put_other_offence`, of a search and of a check.
-fn put_other_offence_of_each(
-    alloc: Global,
-    others: &mut String,
-    case: Offence,
-) -> Result<(), AllocError> {
-    put_other_offence(alloc, others, &["cxsat", "solve", "f"], case)?;
-    put_other_offence(alloc, others, CHECK.line, case)
-}
-
-fn put_other_offences(
-    alloc: Global,
-    others: &mut String,
-    cases: &[Offence],
-) -> Result<(), AllocError> {
-    for case in cases {
-        put_other_offence_of_each(alloc, others, *case)?;
-    }
-    Ok(())
-}
-
 #[test]
 fn formulas_are_refused_at_their_first_offence(rt: HostRuntime) {
-    let mut others = String::new(rt.alloc());
-    let written = put_other_offences(rt.alloc(), &mut others, &OFFENCES);
-    expect_none(&rt, written, others.as_str());
+    let solve = Offences {
+        line: &["cxsat", "solve", "f"],
+        formulas: &OFFENCES,
+    };
+    let check = Offences {
+        line: CHECK,
+        formulas: &OFFENCES,
+    };
+    expect_all(&rt, &[solve, check]);
 }
 
-/// Writes how a check of a proof of 12 bytes ends within these bounds, if it is not so.
-fn put_other_bounded(
-    alloc: Global,
-    others: &mut String,
-    formula: &str,
-    bounds: Bounds,
-    end: (u8, &str, &str),
-) -> Result<(), AllocError> {
-    let (status, answer, message) = end;
-    let task = Task {
-        line: CHECK.line,
-        formula,
-        second: "2 0 1 0\nzzz\n",
-    };
-    let end = End {
-        status,
-        answer,
-        message,
-        proof: b"",
-    };
-    put_other_in_pieces(alloc, others, task, bounds, end)
+/// A formula, and how a check of a proof of 12 bytes is to end within these bounds.
+struct Bounded(&'static str, Bounds, (u8, &'static str, &'static str));
+
+impl Case for Bounded {
+    fn put_other(&self, alloc: Global, others: &mut String) -> Result<(), AllocError> {
+        let (status, answer, message) = self.2;
+        let task = Task {
+            line: CHECK,
+            formula: self.0,
+            second: "2 0 1 0\nzzz\n",
+        };
+        let end = End {
+            status,
+            answer,
+            message,
+            proof: b"",
+        };
+        put_other_in_pieces(alloc, others, task, self.1, end)
+    }
 }
 
-/// As `put_other_bounded`, under each limit, and where the answer has too little room.
-fn put_others_bounded(alloc: Global, others: &mut String) -> Result<(), AllocError> {
-    let fits = (0, "s VERIFIED\n", "");
-    put_other_bounded(alloc, others, EMPTY, Bounds { limit: 12, ..AMPLE }, fits)?;
-    let first = (9, "", "error: limit L2 formula\n");
-    put_other_bounded(alloc, others, EMPTY, Bounds { limit: 11, ..AMPLE }, first)?;
-    let second = (9, "", "error: limit L2 second\n");
-    put_other_bounded(
-        alloc,
-        others,
+/// Each limit, and an answer that has too little room.
+static BOUNDED: [Bounded; 4] = [
+    Bounded(
+        EMPTY,
+        Bounds { limit: 12, ..AMPLE },
+        (0, "s VERIFIED\n", ""),
+    ),
+    Bounded(
+        EMPTY,
+        Bounds { limit: 11, ..AMPLE },
+        (9, "", "error: limit L2 formula\n"),
+    ),
+    Bounded(
         "p cnf 1 1\n0",
         Bounds { limit: 11, ..AMPLE },
-        second,
-    )?;
-    let full = Bounds { answer: 3, ..AMPLE };
-    let fault = (5, "s V", "error: write fault\n");
-    put_other_bounded(alloc, others, EMPTY, full, fault)
-}
-
-#[test]
-fn texts_over_the_limit_and_a_full_answer_port_are_refused(rt: HostRuntime) {
-    let mut others = String::new(rt.alloc());
-    let written = put_others_bounded(rt.alloc(), &mut others);
-    expect_none(&rt, written, others.as_str());
-}
-
-static LINES: [Row; 10] = [
-    (&["cxsat", "check", "f", "s"], u32::MAX, 0),
-    (&["cxsat", "slove", "f"], u32::MAX, 2),
-    (&["cxsat", "check", "f", "f"], u32::MAX, 2),
-    (&["cxsat", "check", "f", "-s"], u32::MAX, 2),
-    (&["cxsat", "check", "f"], u32::MAX, 2),
-    (&["cxsat"], u32::MAX, 2),
-    (&[], u32::MAX, 2),
-    (&["cxsat", "check", "f", ""], u32::MAX, 4),
-    (&["cxsat", "check", "g", "s"], u32::MAX, 4),
-    (&["cxsat", "check", "f", "g"], u32::MAX, 4),
+        (9, "", "error: limit L2 second\n"),
+    ),
+    Bounded(
+        EMPTY,
+        Bounds { answer: 3, ..AMPLE },
+        (5, "s V", "error: write fault\n"),
+    ),
 ];
 
 #[test]
+fn texts_over_the_limit_and_a_full_answer_port_are_refused(rt: HostRuntime) {
+    expect_all(&rt, &BOUNDED);
+}
+
+static LINES: [Lines; 1] = [Lines {
+    texts: (EMPTY, "2 0 1 0\n"),
+    rows: &[
+        (&["cxsat", "check", "f", "s"], u32::MAX, 0),
+        (&["cxsat", "slove", "f"], u32::MAX, 2),
+        (&["cxsat", "check", "f", "f"], u32::MAX, 2),
+        (&["cxsat", "check", "f", "-s"], u32::MAX, 2),
+        (&["cxsat", "check", "f"], u32::MAX, 2),
+        (&["cxsat"], u32::MAX, 2),
+        (&[], u32::MAX, 2),
+        (&["cxsat", "check", "f", ""], u32::MAX, 4),
+        (&["cxsat", "check", "g", "s"], u32::MAX, 4),
+        (&["cxsat", "check", "f", "g"], u32::MAX, 4),
+    ],
+}];
+
+#[test]
 fn words_are_refused_or_taken(rt: HostRuntime) {
-    let mut others = String::new(rt.alloc());
-    let written = put_other_statuses(rt.alloc(), &mut others, (EMPTY, "2 0 1 0\n"), &LINES);
-    expect_none(&rt, written, others.as_str());
+    expect_all(&rt, &LINES);
 }

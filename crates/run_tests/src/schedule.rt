@@ -110,10 +110,11 @@ fn told_when_spent(alloc: Global, solved: &Ended) -> Result<(bool, u64, bool), A
     Ok(told_of(log.as_str()))
 }
 
+static LINE: [&str; 7] = ["cxsat", "solve", "f", "--proof", "l", "--conflicts", "5000"];
+
 /// As `told_when_spent`, of a search over pigeonholes with a budget of 5,000 conflicts.
 fn told_of_pigeons(alloc: Global, holes: u8) -> Result<(bool, u64, bool), AllocError> {
-    let line = ["cxsat", "solve", "f", "--proof", "l", "--conflicts", "5000"];
-    let solved = run_over_pigeons(alloc, holes, line.as_slice())?;
+    let solved = run_over_pigeons(alloc, holes, &LINE)?;
     told_when_spent(alloc, &solved)
 }
 

@@ -3,8 +3,8 @@ ghost use Rattle.std.specs.Prelude.{◌≤◌};
 
 use crate::desk::{AMPLE, Bounds, Ended, Task, run};
 use crate::expecting::{
-    End, PIECES, Row, answers, expect, expect_none, in_pieces, is_answered, put_other_in_pieces,
-    put_other_statuses, put_unless, run_task,
+    Case, End, Lines, PIECES, answers, expect, expect_all, in_pieces, is_answered,
+    put_other_in_pieces, put_unless, run_task,
 };
 use crate::formulas::{EMPTY, SQUARE, TRIANGLE, TRIANGLE_OF_CLAUSES};
 use std::alloc::{AllocError, Global};
@@ -20,7 +20,7 @@ const SOLVE: &[&str] = &["cxsat", "solve", "f"];
 const FILED: &[&str] = &["cxsat", "solve", "f", "--proof", "l"];
 
 /// A formula, a budget of conflicts, and the status and the answer of `solve`.
-type Case = (&'static str, &'static str, u8, &'static str);
+struct Solved(&'static str, &'static str, u8, &'static str);
 
 /// Whether two runs came to the same answer and the same log, the second with no message.
 fn ended_alike(plain: &Ended, filed: &Ended) -> bool {
@@ -35,21 +35,20 @@ fn ended_alike(plain: &Ended, filed: &Ended) -> bool {
 fn put_other_beside(
     alloc: Global,
     others: &mut String,
-    case: &Case,
+    case: &Solved,
     bounds: Bounds,
     plain: &Ended,
 ) -> Result<(), AllocError>
     requires { 1 ≤ bounds.piece }
 {
-    let (formula, budget, status, answer) = *case;
-    let line = ["cxsat", "solve", "f", "--proof", "l", "--conflicts", budget];
+    let line = ["cxsat", "solve", "f", "--proof", "l", "--conflicts", case.1];
     let task = Task {
         line: line.as_slice(),
-        formula,
+        formula: case.0,
         second: "",
     };
     let filed = run_task(alloc, task, bounds)?;
-    let is_right = answers(plain, status, answer) && ended_alike(plain, &filed);
+    let is_right = answers(plain, case.2, case.3) && ended_alike(plain, &filed);
     put_unless(alloc, others, task, &filed, is_right)
 }
 
@@ -57,7 +56,7 @@ fn put_other_beside(
 fn put_other_within(
     alloc: Global,
     others: &mut String,
-    case: &Case,
+    case: &Solved,
     bounds: Bounds,
 ) -> Result<(), AllocError>
     requires { 1 ≤ bounds.piece }
@@ -67,56 +66,50 @@ fn put_other_within(
     put_other_beside(alloc, others, case, bounds, &plain)
 }
 
-/// As `put_other_within`, in pieces of any length.
-fn put_other_answer(alloc: Global, others: &mut String, case: &Case) -> Result<(), AllocError> {
-    for piece in PIECES {
-        put_other_within(alloc, others, case, in_pieces(AMPLE, piece))?;
+impl Case for Solved {
+    fn put_other(&self, alloc: Global, others: &mut String) -> Result<(), AllocError> {
+        for piece in &PIECES {
+            put_other_within(alloc, others, self, in_pieces(AMPLE, *piece))?;
+        }
+        Ok(())
     }
-    Ok(())
 }
 
-fn put_other_answers(alloc: Global, others: &mut String, cases: &[Case]) -> Result<(), AllocError> {
-    for case in cases {
-        put_other_answer(alloc, others, case)?;
-    }
-    Ok(())
-}
-
-static ANSWERS: [Case; 14] = [
-    ("p cnf 0 0\n", "7", 10, "s SATISFIABLE\nv 0\n"),
-    (CHAIN, "7", 10, "s SATISFIABLE\nv 1 -2 0\n"),
-    (
+static ANSWERS: [Solved; 14] = [
+    Solved("p cnf 0 0\n", "7", 10, "s SATISFIABLE\nv 0\n"),
+    Solved(CHAIN, "7", 10, "s SATISFIABLE\nv 1 -2 0\n"),
+    Solved(
         "p cnf 2 2\nx-1 2 0\n1 0\n",
         "7",
         10,
         "s SATISFIABLE\nv 1 2 0\n",
     ),
-    (
+    Solved(
         "p cnf 2 2\nx -1 2 0\n1 0\n",
         "7",
         10,
         "s SATISFIABLE\nv 1 2 0\n",
     ),
-    (
+    Solved(
         "p cnf 1 2\nx1 1 2 0\n1 0\n",
         "7",
         10,
         "s SATISFIABLE\nv 1 2 0\n",
     ),
-    (
+    Solved(
         "c hi\r\np cnf 1 1\r\n1 0\r\n%\n0\n",
         "7",
         10,
         "s SATISFIABLE\nv 1 0\n",
     ),
-    (EMPTY, "1", 20, "s UNSATISFIABLE\n"),
-    ("p cnf 2 1\nx0\n", "1", 20, "s UNSATISFIABLE\n"),
-    (TRIANGLE, "1", 20, "s UNSATISFIABLE\n"),
-    (TRIANGLE_OF_CLAUSES, "1", 20, "s UNSATISFIABLE\n"),
-    (SQUARE, "1", 20, "s UNSATISFIABLE\n"),
-    (FOUR, "2", 20, "s UNSATISFIABLE\n"),
-    (FOUR, "1", 0, "c conflicts 1\ns UNKNOWN\n"),
-    (
+    Solved(EMPTY, "1", 20, "s UNSATISFIABLE\n"),
+    Solved("p cnf 2 1\nx0\n", "1", 20, "s UNSATISFIABLE\n"),
+    Solved(TRIANGLE, "1", 20, "s UNSATISFIABLE\n"),
+    Solved(TRIANGLE_OF_CLAUSES, "1", 20, "s UNSATISFIABLE\n"),
+    Solved(SQUARE, "1", 20, "s UNSATISFIABLE\n"),
+    Solved(FOUR, "2", 20, "s UNSATISFIABLE\n"),
+    Solved(FOUR, "1", 0, "c conflicts 1\ns UNKNOWN\n"),
+    Solved(
         "p cnf 2000000 4\n1 2 0\n1 -2 0\n-1 3 0\n-1 -3 0\n",
         "1",
         0,
@@ -125,8 +118,7 @@ static ANSWERS: [Case; 14] = [
 ];
 
 /// Runs `solve --inprocess` with a budget and a file for the log. Writes how it ended, unless it gave the same answer.
-fn put_other_tidied(alloc: Global, others: &mut String, case: &Case) -> Result<(), AllocError> {
-    let (formula, budget, status, answer) = *case;
+fn put_other_tidied(alloc: Global, others: &mut String, case: &Solved) -> Result<(), AllocError> {
     let line = [
         "cxsat",
         "solve",
@@ -135,75 +127,75 @@ fn put_other_tidied(alloc: Global, others: &mut String, case: &Case) -> Result<(
         "--proof",
         "l",
         "--conflicts",
-        budget,
+        case.1,
     ];
     let task = Task {
         line: line.as_slice(),
-        formula,
+        formula: case.0,
         second: "",
     };
     let ended = run_task(alloc, task, AMPLE)?;
-    let is_right = answers(&ended, status, answer);
+    let is_right = answers(&ended, case.2, case.3);
     put_unless(alloc, others, task, &ended, is_right)
 }
 
 /// Formulas with assumption constraints: the literals that fail come by rising variables, and the two of a variable that is assumed with both signs.
-static ASSUMED: [Case; 10] = [
-    (
+static ASSUMED: [Solved; 10] = [
+    Solved(
         "p cnf 2 2\nx1 2 0\na 1 2 0\n",
         "7",
         20,
         "s UNSATISFIABLE\nc failed 1 2 0\n",
     ),
-    (
+    Solved(
         "p cnf 2 2\n1 2 0\na -1 0\n",
         "7",
         10,
         "s SATISFIABLE\nv -1 2 0\n",
     ),
-    (
+    Solved(
         "p cnf 1 0\na 1 -1 0\n",
         "1",
         20,
         "s UNSATISFIABLE\nc failed 1 -1 0\n",
     ),
-    (
+    Solved(
         "p cnf 3 0\na 3 -2 -3 0\na 2 0\n",
         "1",
         20,
         "s UNSATISFIABLE\nc failed 2 -2 0\n",
     ),
-    (
+    Solved(
         "p cnf 3 2\nx 1 2 3 0\na 3 -2 1 0\n",
         "1",
         20,
         "s UNSATISFIABLE\nc failed 1 -2 3 0\n",
     ),
-    (
+    Solved(
         "p cnf 3 3\n-3 2 0\n-2 -1 0\na 3 0\na 1 0\n",
         "1",
         20,
         "s UNSATISFIABLE\nc failed 1 3 0\n",
     ),
-    (
+    Solved(
         "p cnf 2 3\n1 0\na -1 2 0\n",
         "1",
         20,
         "s UNSATISFIABLE\nc failed -1 0\n",
     ),
-    (
+    Solved(
         "p cnf 1 3\n1 0\n-1 0\na 0\n",
         "1",
         20,
         "s UNSATISFIABLE\nc failed 0\n",
     ),
-    (
+    Solved(
         "p cnf 4 5\n1 2 3 0\n1 -2 3 0\n1 2 -3 0\n1 -2 -3 0\na -1 4 0\n",
         "7",
         20,
         "s UNSATISFIABLE\nc failed -1 0\n",
     ),
-    (
+    Solved(
         "p cnf 2000000 1\n-1 2 0\na 3 1 -2 0\n",
         "7",
         20,
@@ -213,91 +205,89 @@ static ASSUMED: [Case; 10] = [
 
 #[test]
 fn assumed_literals_that_fail_are_told(rt: HostRuntime) {
-    let mut others = String::new(rt.alloc());
-    let written = put_other_answers(rt.alloc(), &mut others, &ASSUMED);
-    expect_none(&rt, written, others.as_str());
+    expect_all(&rt, &ASSUMED);
 }
 
 /// Formulas that propagation refutes at level 0, with assumptions that have no part in it, also where one is false there.
-static REFUTED_ALONE: [Case; 13] = [
-    (
+static REFUTED_ALONE: [Solved; 13] = [
+    Solved(
         "p cnf 2 2\n0\na 1 -2 0\n",
         "1",
         20,
         "s UNSATISFIABLE\nc failed 0\n",
     ),
-    (
+    Solved(
         "p cnf 2 2\nx0\na 2 0\n",
         "1",
         20,
         "s UNSATISFIABLE\nc failed 0\n",
     ),
-    (
+    Solved(
         "p cnf 3 4\nx1 2 0\nx2 3 0\nx1 3 0\na 3 1 0\n",
         "1",
         20,
         "s UNSATISFIABLE\nc failed 0\n",
     ),
-    (
+    Solved(
         "p cnf 4 6\n1 0\n-1 2 0\n-2 3 0\n-3 -1 0\na 4 0\na 1 0\n",
         "1",
         20,
         "s UNSATISFIABLE\nc failed 0\n",
     ),
-    (
+    Solved(
         "p cnf 3 6\n1 2 0\n-1 2 0\n1 -2 0\n-1 -2 0\na 3 0\na 1 0\n",
         "1",
         20,
         "s UNSATISFIABLE\nc failed 0\n",
     ),
-    (
+    Solved(
         "p cnf 2 4\n1 0\n-1 2 0\n-1 -2 0\na -1 0\n",
         "1",
         20,
         "s UNSATISFIABLE\nc failed 0\n",
     ),
-    (
+    Solved(
         "p cnf 3 5\n1 0\nx1 2 0\n2 3 0\n2 -3 0\na -3 -1 0\n",
         "1",
         20,
         "s UNSATISFIABLE\nc failed 0\n",
     ),
     // 1 contradicts an assumed literal, and after it each literal of the parity is implied, which is assumed
-    (
+    Solved(
         "p cnf 3 5\n1 0\n-1 2 0\n-1 3 0\nx2 3 0\na -1 2 3 0\n",
         "1",
         20,
         "s UNSATISFIABLE\nc failed 0\n",
     ),
     // each literal of the parity is assumed, and known
-    (
+    Solved(
         "p cnf 2 4\nx1 2 0\n1 0\n2 0\na 1 2 0\n",
         "1",
         20,
         "s UNSATISFIABLE\nc failed 0\n",
     ),
     // each parity's clause would end the log
-    (
+    Solved(
         "p cnf 2 4\nx1 0\nx2 0\n-1 -2 0\na -1 -2 0\n",
         "1",
         20,
         "s UNSATISFIABLE\nc failed 0\n",
     ),
-    (
+    Solved(
         "p cnf 3 5\nx1 0\nx2 0\nx3 0\n-1 -2 -3 0\na -1 -2 -3 0\n",
         "1",
         20,
         "s UNSATISFIABLE\nc failed 0\n",
     ),
     // also that of the parity that is not met
-    (
+    Solved(
         "p cnf 3 5\nx1 0\n-1 2 0\n-1 3 0\nx2 3 0\na -1 2 3 0\n",
         "1",
         20,
         "s UNSATISFIABLE\nc failed 0\n",
     ),
     // the first one has a literal that a unit clause makes false
-    (
+    Solved(
         "p cnf 4 7\nx1 2 0\n-2 0\n-1 3 0\nx3 4 0\n-3 4 0\na -1 -2 0\na -3 4 0\n",
         "1",
         20,
@@ -307,78 +297,76 @@ static REFUTED_ALONE: [Case; 13] = [
 
 #[test]
 fn no_assumed_literal_fails_where_the_formula_is_refuted_without_a_decision(rt: HostRuntime) {
-    let mut others = String::new(rt.alloc());
-    let written = put_other_answers(rt.alloc(), &mut others, &REFUTED_ALONE);
-    expect_none(&rt, written, others.as_str());
+    expect_all(&rt, &REFUTED_ALONE);
 }
 
 /// Formulas of which some assumed literals fail, and others that are decided before these have no part in it.
-static PARTLY_FAILED: [Case; 10] = [
+static PARTLY_FAILED: [Solved; 10] = [
     // 2 excludes 4
-    (
+    Solved(
         "p cnf 4 2\n-2 -4 0\na 1 2 3 4 0\n",
         "1",
         20,
         "s UNSATISFIABLE\nc failed 2 4 0\n",
     ),
     // over two more variables 1 excludes 3
-    (
+    Solved(
         "p cnf 6 4\n-1 5 0\n-5 6 0\n-6 -3 0\na 2 4 1 3 0\n",
         "1",
         20,
         "s UNSATISFIABLE\nc failed 1 3 0\n",
     ),
     // 1 and 2 give two values of 5
-    (
+    Solved(
         "p cnf 5 3\n-1 -2 5 0\n-1 -2 -5 0\na 3 -4 1 2 0\n",
         "1",
         20,
         "s UNSATISFIABLE\nc failed 1 2 0\n",
     ),
     // the parity of 1, 2 and 3
-    (
+    Solved(
         "p cnf 5 2\nx1 2 3 0\na 5 1 -4 2 -3 0\n",
         "1",
         20,
         "s UNSATISFIABLE\nc failed 1 2 -3 0\n",
     ),
     // the sum of two parities, of 1, 2, 4 and 5
-    (
+    Solved(
         "p cnf 7 3\nx1 2 3 0\nx3 4 5 0\na 6 1 7 -2 4 5 0\n",
         "1",
         20,
         "s UNSATISFIABLE\nc failed 1 -2 4 5 0\n",
     ),
     // what is known at level 0 is no reason that fails
-    (
+    Solved(
         "p cnf 5 4\n5 0\n-5 -1 4 0\n-4 -2 0\na 3 1 2 0\n",
         "1",
         20,
         "s UNSATISFIABLE\nc failed 1 2 0\n",
     ),
     // of a parity, nor are literals that are known and assumed
-    (
+    Solved(
         "p cnf 2 3\nx1 2 0\n1 0\na 1 2 0\n",
         "1",
         20,
         "s UNSATISFIABLE\nc failed 2 0\n",
     ),
     // where 2 follows from 1
-    (
+    Solved(
         "p cnf 3 4\nx1 2 3 0\n1 0\n-1 2 0\na 1 2 -3 0\n",
         "1",
         20,
         "s UNSATISFIABLE\nc failed -3 0\n",
     ),
     // and of a parity that clauses give
-    (
+    Solved(
         "p cnf 5 8\n1 2 3 0\n1 -2 -3 0\n-1 2 -3 0\n-1 -2 3 0\nx3 4 5 0\n1 0\n2 0\na 1 2 4 -5 0\n",
         "1",
         20,
         "s UNSATISFIABLE\nc failed 4 -5 0\n",
     ),
     // one literal alone, after others
-    (
+    Solved(
         "p cnf 5 4\n-3 4 0\n-3 5 0\n-4 -5 0\na 1 2 3 0\n",
         "1",
         20,
@@ -388,9 +376,7 @@ static PARTLY_FAILED: [Case; 10] = [
 
 #[test]
 fn what_a_contradiction_does_not_rest_on_does_not_fail(rt: HostRuntime) {
-    let mut others = String::new(rt.alloc());
-    let written = put_other_answers(rt.alloc(), &mut others, &PARTLY_FAILED);
-    expect_none(&rt, written, others.as_str());
+    expect_all(&rt, &PARTLY_FAILED);
 }
 
 /// The sign of a variable that is assumed: by turns true and false.
@@ -398,26 +384,34 @@ fn sign(var: u32) -> &'static str {
     if var % 2 == 0 { "-" } else { "" }
 }
 
-/// A formula of a clause and of one assumption constraint, which has each of this many variables.
-fn assuming(alloc: Global, vars: u32, clause: &str) -> Result<String, AllocError> {
-    let mut text = format!(in alloc; "p cnf {vars} 2\n{clause}\na")?;
+fn put_signed(text: &mut String, vars: u32) -> Result<(), AllocError> {
     for var in 1..=vars {
         write!(text, " {}{var}", sign(var))?;
     }
-    text.push_str(" 0\n")?;
+    text.push_str(" 0\n")
+}
+
+/// A formula of a clause and of one assumption constraint, which has each of this many variables.
+fn assuming(alloc: Global, vars: u32, clause: &str) -> Result<String, AllocError> {
+    let mut text = format!(in alloc; "p cnf {vars} 2\n{clause}\na")?;
+    put_signed(&mut text, vars)?;
     Ok(text)
 }
 
-/// The answer of just those values.
-fn assumed_values(alloc: Global, vars: u32) -> Result<String, AllocError> {
-    let mut text = String::from_str(alloc, "s SATISFIABLE")?;
+fn put_lines_of_values(text: &mut String, vars: u32) -> Result<(), AllocError> {
     for var in 1..=vars {
         if var % 16 == 1 {
             text.push_str("\nv")?;
         }
         write!(text, " {}{var}", sign(var))?;
     }
-    text.push_str(" 0\n")?;
+    text.push_str(" 0\n")
+}
+
+/// The answer of just those values.
+fn assumed_values(alloc: Global, vars: u32) -> Result<String, AllocError> {
+    let mut text = String::from_str(alloc, "s SATISFIABLE")?;
+    put_lines_of_values(&mut text, vars)?;
     Ok(text)
 }
 
@@ -452,9 +446,7 @@ fn many_literals_are_assumed(rt: HostRuntime) {
 
 #[test]
 fn values_are_printed_where_there_are_any(rt: HostRuntime) {
-    let mut others = String::new(rt.alloc());
-    let written = put_other_answers(rt.alloc(), &mut others, &ANSWERS);
-    expect_none(&rt, written, others.as_str());
+    expect_all(&rt, &ANSWERS);
 }
 
 /// Whether a conflict is marked in a log.
@@ -463,31 +455,30 @@ fn has_mark(log: &[u8]) -> bool {
         .any(|front| front == b"c conflict ".as_slice())
 }
 
+static TO_ONE_CONFLICT: [&str; 5] = ["cxsat", "solve", "f", "--conflicts", "1"];
+
 /// Whether a conflict is marked in the log of a search with a budget of one.
 fn marks(alloc: Global, formula: &str) -> Result<bool, AllocError> {
-    let line = ["cxsat", "solve", "f", "--conflicts", "1"];
-    let solved = run(alloc, formula, b"", line.as_slice(), AMPLE)?;
+    let solved = run(alloc, formula, b"", &TO_ONE_CONFLICT, AMPLE)?;
     Ok(has_mark(solved.proof()))
 }
 
-/// As `put_other_tidied`, of each of the cases.
-fn put_others_tidied(alloc: Global, others: &mut String, cases: &[Case]) -> Result<(), AllocError> {
-    for case in cases {
-        put_other_tidied(alloc, others, case)?;
-    }
-    Ok(())
-}
+/// Searches that tidy.
+#[derive(Drop)]
+struct Tidied(&'static [Solved]);
 
-fn put_all_tidied(alloc: Global, others: &mut String) -> Result<(), AllocError> {
-    put_others_tidied(alloc, others, &ANSWERS)?;
-    put_others_tidied(alloc, others, &ASSUMED)
+impl Case for Tidied {
+    fn put_other(&self, alloc: Global, others: &mut String) -> Result<(), AllocError> {
+        for case in self.0 {
+            put_other_tidied(alloc, others, case)?;
+        }
+        Ok(())
+    }
 }
 
 #[test]
 fn tidying_gives_the_same_answers(rt: HostRuntime) {
-    let mut others = String::new(rt.alloc());
-    let written = put_all_tidied(rt.alloc(), &mut others);
-    expect_none(&rt, written, others.as_str());
+    expect_all(&rt, &[Tidied(&ANSWERS), Tidied(&ASSUMED)]);
 }
 
 /// Whether a conflict is marked where all is forced, and where there are decisions.
@@ -557,16 +548,19 @@ fn put_other_fronts(alloc: Global, others: &mut String, log: &[u8]) -> Result<()
     put_other_front(alloc, others, SOLVE, &log[..most])
 }
 
-fn put_other_fronts_of_triangle(alloc: Global, others: &mut String) -> Result<(), AllocError> {
-    let whole = run(alloc, TRIANGLE, b"", FILED, AMPLE)?;
-    put_other_fronts(alloc, others, whole.proof())
+/// A formula, and logs of it that have too little room.
+struct FrontsOfLog(&'static str);
+
+impl Case for FrontsOfLog {
+    fn put_other(&self, alloc: Global, others: &mut String) -> Result<(), AllocError> {
+        let whole = run(alloc, self.0, b"", FILED, AMPLE)?;
+        put_other_fronts(alloc, others, whole.proof())
+    }
 }
 
 #[test]
 fn a_full_log_is_a_write_fault(rt: HostRuntime) {
-    let mut others = String::new(rt.alloc());
-    let written = put_other_fronts_of_triangle(rt.alloc(), &mut others);
-    expect_none(&rt, written, others.as_str());
+    expect_all(&rt, &[FrontsOfLog(TRIANGLE)]);
 }
 
 #[test]
@@ -581,28 +575,29 @@ fn a_full_answer_port_is_a_write_fault(rt: HostRuntime) {
     expect(&rt, is_so, &true);
 }
 
-static LINES: [Row; 8] = [
-    (SOLVE, 21, 10),
-    (SOLVE, 20, 9),
-    (
-        &["cxsat", "solve", "f", "--conflicts", "1000000000000000000"],
-        21,
-        10,
-    ),
-    (
-        &["cxsat", "solve", "f", "--conflicts", "1000000000000000001"],
-        21,
-        2,
-    ),
-    (&["cxsat", "solve", "f", "--conflicts", "0"], 21, 2),
-    (&["cxsat", "solve", "f", "--proof", "f"], 21, 2),
-    (&["cxsat", "solve", "g"], 21, 4),
-    (&[], 21, 2),
-];
+static LINES: [Lines; 1] = [Lines {
+    texts: (CHAIN, ""),
+    rows: &[
+        (SOLVE, 21, 10),
+        (SOLVE, 20, 9),
+        (
+            &["cxsat", "solve", "f", "--conflicts", "1000000000000000000"],
+            21,
+            10,
+        ),
+        (
+            &["cxsat", "solve", "f", "--conflicts", "1000000000000000001"],
+            21,
+            2,
+        ),
+        (&["cxsat", "solve", "f", "--conflicts", "0"], 21, 2),
+        (&["cxsat", "solve", "f", "--proof", "f"], 21, 2),
+        (&["cxsat", "solve", "g"], 21, 4),
+        (&[], 21, 2),
+    ],
+}];
 
 #[test]
 fn words_and_texts_are_within_their_bounds(rt: HostRuntime) {
-    let mut others = String::new(rt.alloc());
-    let written = put_other_statuses(rt.alloc(), &mut others, (CHAIN, ""), &LINES);
-    expect_none(&rt, written, others.as_str());
+    expect_all(&rt, &LINES);
 }

@@ -75,19 +75,20 @@ fn told_of(alloc: Global, log: &[u8]) -> Result<(bool, u64, usize), AllocError> 
     Ok((in_time, lines.conflicts, lines.tidied))
 }
 
+static LINE: [&str; 8] = [
+    "cxsat",
+    "solve",
+    "--inprocess",
+    "f",
+    "--proof",
+    "l",
+    "--conflicts",
+    "1000",
+];
+
 /// The status of a search of 1,000 conflicts over pigeonholes that tidies, and what `told_of` finds in its log.
 fn tidied_pigeons(alloc: Global) -> Result<(u8, (bool, u64, usize)), AllocError> {
-    let line = [
-        "cxsat",
-        "solve",
-        "--inprocess",
-        "f",
-        "--proof",
-        "l",
-        "--conflicts",
-        "1000",
-    ];
-    let solved = run_over_pigeons(alloc, 10, line.as_slice())?;
+    let solved = run_over_pigeons(alloc, 10, &LINE)?;
     Ok((solved.status, told_of(alloc, solved.proof())?))
 }
 

@@ -1,13 +1,15 @@
 //! Proofs that are trimmed, and proofs that are refused at a step for a cause.
 use crate::desk::{AMPLE, Bounds, Task};
 use crate::expecting::{
-    End, Judging, Refused, expect_none, is_answered, put_other, put_other_refusals, run_task,
+    Case, End, Judging, Refusals, Run, expect_all, is_answered, put_other_in_pieces, run_task,
 };
 use crate::formulas::SQUARE;
 use std::alloc::{AllocError, Global};
 
+const LINE: &[&str] = &["cxsat", "trim", "f", "s", "p"];
+
 const TRIM: Judging = Judging {
-    line: &["cxsat", "trim", "f", "s", "p"],
+    line: LINE,
     status: 7,
     verdict: "s NOT TRIMMED",
 };
@@ -24,47 +26,47 @@ const SQUARE_PROOF: &str = "5 2 0 1 2 0\n6 0 5 3 4 0\n";
 const SQUARE_CORE: &str = "c core clauses 1 2 3 4 0\nc core parities 0\ns TRIMMED\n";
 
 /// A formula, a proof of it, what is left of that, and the lines of the core.
-type Trimming = (&'static str, &'static str, &'static str, &'static str);
+struct Trimming(&'static str, &'static str, &'static str, &'static str);
 
 static TRIMMED: [Trimming; 8] = [
-    (SQUARE, SQUARE_PROOF, SQUARE_PROOF, SQUARE_CORE),
-    (
+    Trimming(SQUARE, SQUARE_PROOF, SQUARE_PROOF, SQUARE_CORE),
+    Trimming(
         SQUARE,
         "5 2 0 1 2 0\n7 2 1 0 1 0\n6 0 5 3 4 0\n",
         SQUARE_PROOF,
         SQUARE_CORE,
     ),
-    (
+    Trimming(
         SQUARE,
         "c a comment\n5   2 0 1 2 0\n6 0 5 3 4 0\nzzz",
         SQUARE_PROOF,
         SQUARE_CORE,
     ),
-    (
+    Trimming(
         SQUARE,
         "5 2 0 1 2 0\n5 d 1 0\n9 d 7 0\n6 0 5 3 4 0\n",
         "5 2 0 1 2 0\n5 d 1 0\n6 0 5 3 4 0\n",
         SQUARE_CORE,
     ),
-    (
+    Trimming(
         TRIANGLE_AND_CLAUSE,
         "x 4 0 1 2 3 0\ni 2 0 4 0\n",
         "x 4 0 1 2 3 0\ni 2 0 4 0\n",
         "c core clauses 0\nc core parities 1 2 3 0\ns TRIMMED\n",
     ),
-    (
+    Trimming(
         SQUARE_AMONG_OTHERS,
         "7 2 0 2 3 0\n8 3 0 7 4 0\n9 0 7 5 6 0\n",
         "7 2 0 2 3 0\n9 0 7 5 6 0\n",
         "c core clauses 2 3 5 6 0\nc core parities 0\ns TRIMMED\n",
     ),
-    (
+    Trimming(
         "p cnf 1 1\n0\n",
         "2 0 1 0\n",
         "2 0 1 0\n",
         "c core clauses 1 0\nc core parities 0\ns TRIMMED\n",
     ),
-    (
+    Trimming(
         "p cnf 1 0\na 1 -1 0\n",
         "",
         "",
@@ -72,63 +74,57 @@ static TRIMMED: [Trimming; 8] = [
     ),
 ];
 
-/// Writes how the trimming of the proof ends, if it is not so. Trimmed again, what is left of it stays whole.
+/// Writes how the trimming of the proof ends, if it is not so.
 fn put_untrimmed(
     alloc: Global,
     others: &mut String,
-    (formula, second, left, answer): Trimming,
+    case: &Trimming,
+    proof: &str,
 ) -> Result<(), AllocError> {
+    let task = Task {
+        line: LINE,
+        formula: case.0,
+        second: proof,
+    };
     let end = End {
         status: 0,
-        answer,
+        answer: case.3,
         message: "",
-        proof: left.as_bytes(),
+        proof: case.2.as_bytes(),
     };
-    for proof in [second, left] {
-        let task = Task {
-            line: TRIM.line,
-            formula,
-            second: proof,
-        };
-        put_other(alloc, others, task, AMPLE, end)?;
-    }
-    Ok(())
+    put_other_in_pieces(alloc, others, task, AMPLE, end)
 }
 
-fn put_all_untrimmed(
-    alloc: Global,
-    others: &mut String,
-    cases: &[Trimming],
-) -> Result<(), AllocError> {
-    for case in cases {
-        put_untrimmed(alloc, others, *case)?;
+impl Case for Trimming {
+    /// Trimmed again, what is left of the proof stays whole.
+    fn put_other(&self, alloc: Global, others: &mut String) -> Result<(), AllocError> {
+        put_untrimmed(alloc, others, self, self.1)?;
+        put_untrimmed(alloc, others, self, self.2)
     }
-    Ok(())
 }
 
 #[test]
 fn proofs_are_trimmed(rt: HostRuntime) {
-    let mut others = String::new(rt.alloc());
-    let written = put_all_untrimmed(rt.alloc(), &mut others, &TRIMMED);
-    expect_none(&rt, written, others.as_str());
+    expect_all(&rt, &TRIMMED);
 }
 
-static REFUSED: [Refused; 4] = [
-    (
-        TRIANGLE_AND_CLAUSE,
-        "x 4 0 1 2 3 0\ni 1 0 4 0\n",
-        "step 2 P2",
-    ),
-    (SQUARE, "5 d 1 0\n5 2 0 1 2 0\n", "step 2 P4"),
-    (SQUARE, "5 2 0 1 2 0\n", "step 2 P11"),
-    (SQUARE, "5 2 0 1 2 0\nzzz\n", "step 2 P0 at byte 12"),
-];
+static REFUSED: [Refusals; 1] = [Refusals {
+    command: TRIM,
+    texts: &[
+        (
+            TRIANGLE_AND_CLAUSE,
+            "x 4 0 1 2 3 0\ni 1 0 4 0\n",
+            "step 2 P2",
+        ),
+        (SQUARE, "5 d 1 0\n5 2 0 1 2 0\n", "step 2 P4"),
+        (SQUARE, "5 2 0 1 2 0\n", "step 2 P11"),
+        (SQUARE, "5 2 0 1 2 0\nzzz\n", "step 2 P0 at byte 12"),
+    ],
+}];
 
 #[test]
 fn of_a_refused_proof_nothing_is_written(rt: HostRuntime) {
-    let mut others = String::new(rt.alloc());
-    let written = put_other_refusals(rt.alloc(), &mut others, TRIM, &REFUSED);
-    expect_none(&rt, written, others.as_str());
+    expect_all(&rt, &REFUSED);
 }
 
 /// The lines of a core, and how many constraints of each kind were passed in the formula.
@@ -161,6 +157,22 @@ impl Core<'_> {
     }
 }
 
+/// Writes the lines of the formula that belong to the formula of the core.
+fn put_kept(
+    alloc: Global,
+    text: &mut String,
+    core: &mut Core,
+    formula: &str,
+) -> Result<(), AllocError> {
+    for line in formula.split('\n') {
+        if core.keeps(alloc, line)? {
+            text.push_str(line)?;
+            text.push_str("\n")?;
+        }
+    }
+    Ok(())
+}
+
 /// The formula of the core that an answer of `trim` tells.
 fn core_of(alloc: Global, formula: &str, answer: &str) -> Result<String, AllocError> {
     let mut lines = answer.split('\n');
@@ -171,12 +183,7 @@ fn core_of(alloc: Global, formula: &str, answer: &str) -> Result<String, AllocEr
         parity: 0,
     };
     let mut text = String::new(alloc);
-    for line in formula.split('\n') {
-        if core.keeps(alloc, line)? {
-            text.push_str(line)?;
-            text.push_str("\n")?;
-        }
-    }
+    put_kept(alloc, &mut text, &mut core, formula)?;
     Ok(text)
 }
 
@@ -189,7 +196,7 @@ fn core_in(alloc: Global, formula: &str, answer: &[u8]) -> Result<String, AllocE
 /// The formula of the core that `trim` tells.
 fn told_core(alloc: Global, formula: &str, second: &str) -> Result<String, AllocError> {
     let task = Task {
-        line: TRIM.line,
+        line: LINE,
         formula,
         second,
     };
@@ -212,111 +219,94 @@ fn put_if_met(alloc: Global, others: &mut String, formula: &str) -> Result<(), A
 }
 
 /// As `put_if_met`, of the formula of a core.
-fn put_met(
-    alloc: Global,
-    others: &mut String,
-    (formula, second, _left, _answer): Trimming,
-) -> Result<(), AllocError> {
-    let core = told_core(alloc, formula, second)?;
+fn put_met(alloc: Global, others: &mut String, trimming: &Trimming) -> Result<(), AllocError> {
+    let core = told_core(alloc, trimming.0, trimming.1)?;
     put_if_met(alloc, others, core.as_str())
 }
 
-fn put_all_met(alloc: Global, others: &mut String, cases: &[Trimming]) -> Result<(), AllocError> {
-    for case in cases {
-        put_met(alloc, others, *case)?;
+/// Proofs, of each of which the core has no values.
+#[derive(Drop)]
+struct Cores(&'static [Trimming]);
+
+impl Case for Cores {
+    fn put_other(&self, alloc: Global, others: &mut String) -> Result<(), AllocError> {
+        for trimming in self.0 {
+            put_met(alloc, others, trimming)?;
+        }
+        Ok(())
     }
-    Ok(())
 }
 
 #[test]
 fn cores_are_unsatisfiable_by_themselves(rt: HostRuntime) {
-    let mut others = String::new(rt.alloc());
-    let written = put_all_met(rt.alloc(), &mut others, &TRIMMED);
-    expect_none(&rt, written, others.as_str());
+    expect_all(&rt, &[Cores(&TRIMMED)]);
 }
 
-#[test]
-fn a_long_proof_is_refused_before_it_is_trimmed(rt: HostRuntime) {
-    let task = Task {
-        line: TRIM.line,
+static LONG: [Run; 1] = [Run {
+    task: Task {
+        line: LINE,
         formula: SQUARE,
         second: "5 2 0 1 2 0\n6 0 5 3 4 0\nthis follows the last step\n",
-    };
-    let end = End {
+    },
+    bounds: Bounds { limit: 40, ..AMPLE },
+    end: End {
         status: 9,
         answer: "",
         message: "error: limit L2 second\n",
         proof: b"",
-    };
-    let mut others = String::new(rt.alloc());
-    let written = put_other(
-        rt.alloc(),
-        &mut others,
-        task,
-        Bounds { limit: 40, ..AMPLE },
-        end,
-    );
-    expect_none(&rt, written, others.as_str());
-}
+    },
+}];
 
 #[test]
-fn a_full_port_is_a_write_fault(rt: HostRuntime) {
-    let task = Task {
-        line: TRIM.line,
+fn a_long_proof_is_refused_before_it_is_trimmed(rt: HostRuntime) {
+    expect_all(&rt, &LONG);
+}
+
+static CUT_OFF: [Run; 1] = [Run {
+    task: Task {
+        line: LINE,
         formula: SQUARE,
         second: SQUARE_PROOF,
-    };
-    let end = End {
+    },
+    bounds: Bounds { proof: 3, ..AMPLE },
+    end: End {
         status: 5,
         answer: "",
         message: "error: write fault\n",
         proof: b"5 2",
-    };
-    let mut others = String::new(rt.alloc());
-    let written = put_other(
-        rt.alloc(),
-        &mut others,
-        task,
-        Bounds { proof: 3, ..AMPLE },
-        end,
-    );
-    expect_none(&rt, written, others.as_str());
+    },
+}];
+
+#[test]
+fn a_full_port_is_a_write_fault(rt: HostRuntime) {
+    expect_all(&rt, &CUT_OFF);
 }
 
-/// Command lines whose names for `trim` are not plain.
-static UNPLAIN: [&[&str]; 4] = [
-    &["cxsat", "trim", "f", "s"],
-    &["cxsat", "trim", "f", "s", "s"],
-    &["cxsat", "trim", "f", "s", "f"],
-    &["cxsat", "trim", "f", "s", "p", "q"],
-];
+/// A command line whose names for `trim` are not plain.
+struct Unplain(&'static [&'static str]);
 
-/// Writes how a line ends, if it is not refused.
-fn put_taken(alloc: Global, others: &mut String, line: &[&str]) -> Result<(), AllocError> {
-    let task = Task {
-        line,
-        formula: SQUARE,
-        second: SQUARE_PROOF,
-    };
-    if !is_answered(alloc, task, AMPLE, 2, "")? {
-        for word in line {
-            others.push_str(word)?;
-            others.push_str(" ")?;
+impl Case for Unplain {
+    fn put_other(&self, alloc: Global, others: &mut String) -> Result<(), AllocError> {
+        let task = Task {
+            line: self.0,
+            formula: SQUARE,
+            second: SQUARE_PROOF,
+        };
+        if is_answered(alloc, task, AMPLE, 2, "")? {
+            return Ok(());
         }
+        writeln!(others, "{:?}", self.0)
     }
-    Ok(())
 }
 
-fn put_all_taken(alloc: Global, others: &mut String, lines: &[&[&str]]) -> Result<(), AllocError> {
-    for line in lines {
-        put_taken(alloc, others, line)?;
-    }
-    Ok(())
-}
+static UNPLAIN: [Unplain; 4] = [
+    Unplain(&["cxsat", "trim", "f", "s"]),
+    Unplain(&["cxsat", "trim", "f", "s", "s"]),
+    Unplain(&["cxsat", "trim", "f", "s", "f"]),
+    Unplain(&["cxsat", "trim", "f", "s", "p", "q"]),
+];
 
 #[test]
 fn three_names_are_asked_for(rt: HostRuntime) {
-    let mut others = String::new(rt.alloc());
-    let written = put_all_taken(rt.alloc(), &mut others, &UNPLAIN);
-    expect_none(&rt, written, others.as_str());
+    expect_all(&rt, &UNPLAIN);
 }

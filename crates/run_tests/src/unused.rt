@@ -29,14 +29,19 @@ fn two_and_one(alloc: Global, vars: u32) -> Result<Formula, AllocError>
     Ok(builder.finish(vars))
 }
 
-/// How many values there are, and which variables are true.
-fn written(alloc: Global, values: &[bool]) -> Result<String, AllocError> {
-    let mut text = format!(in alloc; "{} values, true:", values.len())?;
+fn put_true(text: &mut String, values: &[bool]) -> Result<(), AllocError> {
     for index in 0..values.len() {
         if values[index] {
             write!(text, " {}", index as u64 + 1)?;
         }
     }
+    Ok(())
+}
+
+/// How many values there are, and which variables are true.
+fn written(alloc: Global, values: &[bool]) -> Result<String, AllocError> {
+    let mut text = format!(in alloc; "{} values, true:", values.len())?;
+    put_true(&mut text, values)?;
     Ok(text)
 }
 
