@@ -77,41 +77,52 @@ abbrev pub joined : List (List ℕ) → List ℕ
 joined [] = []
 joined (p ∷ ps) = p ++ joined ps
 
--- the number of a cause of a proof's refusal; the last three are no causes of a proof
-abbrev pub cause_text : Cause → List ℕ
-cause_text (cause.TextRefused b) = codes "P0 at byte " ++ decimal b
-cause_text cause.VarUnknown = codes "P1"
-cause_text cause.IdInUse = codes "P2"
-cause_text cause.RatHint = codes "P3"
-cause_text cause.HintNotLive = codes "P4"
-cause_text cause.HintNotUnit = codes "P5"
-cause_text cause.HintsEnd = codes "P6"
-cause_text cause.SumDiffers = codes "P7"
-cause_text cause.NotImplied = codes "P8"
-cause_text cause.TooWide = codes "P9"
-cause_text cause.ClauseOutside = codes "P10"
-cause_text cause.NoEmptyClause = codes "P11"
-cause_text cause.NotInFormula = codes "P"
-cause_text cause.NotLive = codes "P"
-cause_text cause.NoChain = codes "P"
+-- the place that follows the code of a text's refusal
+abbrev pub place_text : Cause → List ℕ
+place_text (cause.TextRefused b) = decimal b
+place_text c = []
 
--- the number of a cause of a log's refusal; the last four are no causes of a log
+-- the code of a cause of a proof's refusal; the last three are no causes of a proof
+abbrev pub cause_code : Cause → List ℕ
+cause_code (cause.TextRefused b) = codes "P0 at byte "
+cause_code cause.VarUnknown = codes "P1"
+cause_code cause.IdInUse = codes "P2"
+cause_code cause.RatHint = codes "P3"
+cause_code cause.HintNotLive = codes "P4"
+cause_code cause.HintNotUnit = codes "P5"
+cause_code cause.HintsEnd = codes "P6"
+cause_code cause.SumDiffers = codes "P7"
+cause_code cause.NotImplied = codes "P8"
+cause_code cause.TooWide = codes "P9"
+cause_code cause.ClauseOutside = codes "P10"
+cause_code cause.NoEmptyClause = codes "P11"
+cause_code cause.NotInFormula = codes "P"
+cause_code cause.NotLive = codes "P"
+cause_code cause.NoChain = codes "P"
+
+abbrev pub cause_text : Cause → List ℕ
+cause_text c = cause_code c ++ place_text c
+
+-- the code of a cause of a log's refusal; the last four are no causes of a log
+abbrev pub log_cause_code : Cause → List ℕ
+log_cause_code (cause.TextRefused b) = codes "E0 at byte "
+log_cause_code cause.VarUnknown = codes "E1"
+log_cause_code cause.IdInUse = codes "E2"
+log_cause_code cause.NotInFormula = codes "E3"
+log_cause_code cause.NotLive = codes "E4"
+log_cause_code cause.NoChain = codes "E5"
+log_cause_code cause.SumDiffers = codes "E7"
+log_cause_code cause.NotImplied = codes "E8"
+log_cause_code cause.TooWide = codes "E9"
+log_cause_code cause.ClauseOutside = codes "E10"
+log_cause_code cause.NoEmptyClause = codes "E11"
+log_cause_code cause.RatHint = codes "E"
+log_cause_code cause.HintNotLive = codes "E"
+log_cause_code cause.HintNotUnit = codes "E"
+log_cause_code cause.HintsEnd = codes "E"
+
 abbrev pub log_cause_text : Cause → List ℕ
-log_cause_text (cause.TextRefused b) = codes "E0 at byte " ++ decimal b
-log_cause_text cause.VarUnknown = codes "E1"
-log_cause_text cause.IdInUse = codes "E2"
-log_cause_text cause.NotInFormula = codes "E3"
-log_cause_text cause.NotLive = codes "E4"
-log_cause_text cause.NoChain = codes "E5"
-log_cause_text cause.SumDiffers = codes "E7"
-log_cause_text cause.NotImplied = codes "E8"
-log_cause_text cause.TooWide = codes "E9"
-log_cause_text cause.ClauseOutside = codes "E10"
-log_cause_text cause.NoEmptyClause = codes "E11"
-log_cause_text cause.RatHint = codes "E"
-log_cause_text cause.HintNotLive = codes "E"
-log_cause_text cause.HintNotUnit = codes "E"
-log_cause_text cause.HintsEnd = codes "E"
+log_cause_text c = log_cause_code c ++ place_text c
 
 -- the lines of printed values that are refused
 abbrev pub wrong_text : WrongAnswer → List ℕ
@@ -141,15 +152,17 @@ abbrev pub space_text : Option AffineSpace → List ℕ
 space_text None = codes "s AFFINE NONE\n"
 space_text (Some space) = affine_text space
 
+-- what an ending that tells nothing but itself puts on the Answer port
+abbrev pub plain_answer : Ending → List ℕ
+plain_answer (ending.Verified k) = codes "s VERIFIED\n"
+plain_answer ending.ModelRight = codes "s MODEL RIGHT\n"
+plain_answer (ending.Elaborated k) = codes "s ELABORATED\n"
+plain_answer e = []
+
 -- what an ending puts on the Answer port; nothing where a limit is passed or the formula was refused
 unfoldable pub answer_text : Ending → List ℕ
-answer_text (ending.FormulaRefused o) = []
-answer_text (ending.TooLong s) = []
-answer_text (ending.Verified k) = codes "s VERIFIED\n"
 answer_text (ending.NotVerified k c) = joined (codes "c step " ∷ decimal k ∷ codes " " ∷ cause_text c ∷ codes "\ns NOT VERIFIED\n" ∷ [])
-answer_text ending.ModelRight = codes "s MODEL RIGHT\n"
 answer_text (ending.ModelWrong w) = wrong_text w
-answer_text (ending.Elaborated k) = codes "s ELABORATED\n"
 answer_text (ending.NotElaborated k c) = joined (codes "c step " ∷ decimal k ∷ codes " " ∷ log_cause_text c ∷ codes "\ns NOT ELABORATED\n" ∷ [])
 answer_text (ending.Satisfiable v) = printed.answer_text v
 answer_text (ending.Unsatisfiable failed) = unsatisfiable_text failed
@@ -158,8 +171,8 @@ answer_text (ending.Demonstrated i x) = demo_text i x
 answer_text (ending.Trimmed core) = core_text core
 answer_text (ending.NotTrimmed k c) = joined (codes "c step " ∷ decimal k ∷ codes " " ∷ cause_text c ∷ codes "\ns NOT TRIMMED\n" ∷ [])
 answer_text (ending.Blasted variables clauses) = blasted_text variables clauses
-answer_text (ending.TooManyVariables k) = []
 answer_text (ending.Affine space) = space_text space
+answer_text e = plain_answer e
 
 abbrev pub slot_text : Slot → List ℕ
 slot_text slot.Formula = codes "formula"
@@ -173,26 +186,17 @@ offence_text (offence.BadToken b) = joined (codes "error: formula F3 at byte " �
 offence_text (offence.Unterminated b) = joined (codes "error: formula F4 at byte " ∷ decimal b ∷ codes "\n" ∷ [])
 offence_text (offence.VarLimit b) = joined (codes "error: limit L1 at byte " ∷ decimal b ∷ codes "\n" ∷ [])
 
+-- the message of an outcome that tells no number; nothing where an answer tells all
+abbrev pub plain_message : Outcome → List ℕ
+plain_message (outcome.Ended (ending.TooLong s)) = joined (codes "error: limit L2 " ∷ slot_text s ∷ codes "\n" ∷ [])
+plain_message (outcome.Ended e) = []
+plain_message outcome.Usage = codes "error: usage\nusage: cxsat solve FORMULA [--proof LOG] [--conflicts N] [--inprocess]\nusage: cxsat check FORMULA PROOF\nusage: cxsat elab FORMULA LOG PROOF\nusage: cxsat model FORMULA ANSWER\nusage: cxsat demo KIND SIZE SEED\nusage: cxsat trim FORMULA PROOF OUT\nusage: cxsat blast FORMULA OUT\nusage: cxsat affine FORMULA\n"
+plain_message outcome.ReadFault = codes "error: read fault\n"
+plain_message outcome.WriteFault = codes "error: write fault\n"
+plain_message outcome.Memory = codes "error: out of memory\n"
+
 -- what an outcome puts on the Message port
 unfoldable pub message_text : Outcome → List ℕ
 message_text (outcome.Ended (ending.FormulaRefused o)) = offence_text o
-message_text (outcome.Ended (ending.TooLong s)) = joined (codes "error: limit L2 " ∷ slot_text s ∷ codes "\n" ∷ [])
-message_text (outcome.Ended (ending.Verified k)) = []
-message_text (outcome.Ended (ending.NotVerified k c)) = []
-message_text (outcome.Ended ending.ModelRight) = []
-message_text (outcome.Ended (ending.ModelWrong w)) = []
-message_text (outcome.Ended (ending.Elaborated k)) = []
-message_text (outcome.Ended (ending.NotElaborated k c)) = []
-message_text (outcome.Ended (ending.Satisfiable v)) = []
-message_text (outcome.Ended (ending.Unsatisfiable failed)) = []
-message_text (outcome.Ended (ending.Unknown k)) = []
-message_text (outcome.Ended (ending.Demonstrated i x)) = []
-message_text (outcome.Ended (ending.Trimmed core)) = []
-message_text (outcome.Ended (ending.NotTrimmed k c)) = []
-message_text (outcome.Ended (ending.Blasted variables clauses)) = []
 message_text (outcome.Ended (ending.TooManyVariables k)) = joined (codes "error: limit L3 at constraint " ∷ decimal k ∷ codes "\n" ∷ [])
-message_text (outcome.Ended (ending.Affine space)) = []
-message_text outcome.Usage = codes "error: usage\nusage: cxsat solve FORMULA [--proof LOG] [--conflicts N] [--inprocess]\nusage: cxsat check FORMULA PROOF\nusage: cxsat elab FORMULA LOG PROOF\nusage: cxsat model FORMULA ANSWER\nusage: cxsat demo KIND SIZE SEED\nusage: cxsat trim FORMULA PROOF OUT\nusage: cxsat blast FORMULA OUT\nusage: cxsat affine FORMULA\n"
-message_text outcome.ReadFault = codes "error: read fault\n"
-message_text outcome.WriteFault = codes "error: write fault\n"
-message_text outcome.Memory = codes "error: out of memory\n"
+message_text o = plain_message o

@@ -1,10 +1,10 @@
 //! The lines of the endings.
 ghost use Rattle.cx_desk.specs.declared.desk.Port.TheVariants as port;
-ghost use Rattle.std.specs.Prelude.{◌≡◌, [], ◌∷◌, Some, codes, decimal};
+ghost use Rattle.std.specs.Prelude.{◌≡◌, [], ◌∷◌, ◌++◌, Some, codes, decimal};
 ghost use Rattle.cx_desk.specs.Calls.{PutsAll};
 ghost use Rattle.cx_words.specs.PlainWords.{kind_word};
 ghost use Rattle.solve_cli.specs.Failed.{unsatisfiable_text};
-ghost use Rattle.solve_cli.specs.Endings.{answer_text, message_text, cause_text, log_cause_text, wrong_text, offence_text, shown_text, demo_text, blasted_text, space_text, joined};
+ghost use Rattle.solve_cli.specs.Endings.{answer_text, plain_answer, message_text, plain_message, cause_text, cause_code, log_cause_text, log_cause_code, place_text, wrong_text, offence_text, shown_text, demo_text, blasted_text, space_text, joined};
 ghost use Rattle.solve_cli.specs.Trimming.{core_text, ids_line};
 
 use crate::{Ending, Instance, Outcome, Shown, WrongAnswer};
@@ -48,27 +48,68 @@ fn put_step_at<D: Desk>(
     )
 }
 
+/// The lines of a refusal by its cause, whose code this is.
+fn put_refused<D: Desk>(
+    desk: &mut D,
+    step: u64,
+    cause: Cause,
+    code: &[u8],
+    last: &[u8],
+) -> Result<(), Failed>
+    ensures { PutsAll port.Answer (joined (codes "c step " ∷ decimal step ∷ codes " " ∷ (code.now ++ place_text cause) ∷ last.now ∷ [])) (D.outside desk.old) result (D.outside desk.new) }
+{
+    match cause {
+        Cause::TextRefused(place) => put_step_at(desk, step, code, place, last),
+        _ => put_step(desk, step, code, last),
+    }
+}
+
+/// The code of a cause of a proof's refusal.
+fn cause_code(cause: Cause) -> &'static [u8]
+    ensures { result.now ≡ cause_code cause }
+{
+    match cause {
+        Cause::TextRefused(_) => b"P0 at byte ",
+        Cause::VarUnknown => b"P1",
+        Cause::IdInUse => b"P2",
+        Cause::RatHint => b"P3",
+        Cause::HintNotLive => b"P4",
+        Cause::HintNotUnit => b"P5",
+        Cause::HintsEnd => b"P6",
+        Cause::SumDiffers => b"P7",
+        Cause::NotImplied => b"P8",
+        Cause::TooWide => b"P9",
+        Cause::ClauseOutside => b"P10",
+        Cause::NoEmptyClause => b"P11",
+        Cause::NotInFormula | Cause::NotLive | Cause::NoChain => b"P",
+    }
+}
+
+/// The code of a cause of a log's refusal.
+fn log_cause_code(cause: Cause) -> &'static [u8]
+    ensures { result.now ≡ log_cause_code cause }
+{
+    match cause {
+        Cause::TextRefused(_) => b"E0 at byte ",
+        Cause::VarUnknown => b"E1",
+        Cause::IdInUse => b"E2",
+        Cause::NotInFormula => b"E3",
+        Cause::NotLive => b"E4",
+        Cause::NoChain => b"E5",
+        Cause::SumDiffers => b"E7",
+        Cause::NotImplied => b"E8",
+        Cause::TooWide => b"E9",
+        Cause::ClauseOutside => b"E10",
+        Cause::NoEmptyClause => b"E11",
+        Cause::RatHint | Cause::HintNotLive | Cause::HintNotUnit | Cause::HintsEnd => b"E",
+    }
+}
+
 /// The lines of a proof's refusal by its cause.
 fn put_refusal<D: Desk>(desk: &mut D, step: u64, cause: Cause, last: &[u8]) -> Result<(), Failed>
     ensures { PutsAll port.Answer (joined (codes "c step " ∷ decimal step ∷ codes " " ∷ cause_text cause ∷ last.now ∷ [])) (D.outside desk.old) result (D.outside desk.new) }
 {
-    match cause {
-        Cause::TextRefused(place) => put_step_at(desk, step, b"P0 at byte ", place, last),
-        Cause::VarUnknown => put_step(desk, step, b"P1", last),
-        Cause::IdInUse => put_step(desk, step, b"P2", last),
-        Cause::RatHint => put_step(desk, step, b"P3", last),
-        Cause::HintNotLive => put_step(desk, step, b"P4", last),
-        Cause::HintNotUnit => put_step(desk, step, b"P5", last),
-        Cause::HintsEnd => put_step(desk, step, b"P6", last),
-        Cause::SumDiffers => put_step(desk, step, b"P7", last),
-        Cause::NotImplied => put_step(desk, step, b"P8", last),
-        Cause::TooWide => put_step(desk, step, b"P9", last),
-        Cause::ClauseOutside => put_step(desk, step, b"P10", last),
-        Cause::NoEmptyClause => put_step(desk, step, b"P11", last),
-        Cause::NotInFormula => put_step(desk, step, b"P", last),
-        Cause::NotLive => put_step(desk, step, b"P", last),
-        Cause::NoChain => put_step(desk, step, b"P", last),
-    }
+    put_refused(desk, step, cause, cause_code(cause), last)
 }
 
 /// The lines of a log's refusal by its cause.
@@ -80,23 +121,7 @@ fn put_log_refusal<D: Desk>(
 ) -> Result<(), Failed>
     ensures { PutsAll port.Answer (joined (codes "c step " ∷ decimal step ∷ codes " " ∷ log_cause_text cause ∷ last.now ∷ [])) (D.outside desk.old) result (D.outside desk.new) }
 {
-    match cause {
-        Cause::TextRefused(place) => put_step_at(desk, step, b"E0 at byte ", place, last),
-        Cause::VarUnknown => put_step(desk, step, b"E1", last),
-        Cause::IdInUse => put_step(desk, step, b"E2", last),
-        Cause::NotInFormula => put_step(desk, step, b"E3", last),
-        Cause::NotLive => put_step(desk, step, b"E4", last),
-        Cause::NoChain => put_step(desk, step, b"E5", last),
-        Cause::SumDiffers => put_step(desk, step, b"E7", last),
-        Cause::NotImplied => put_step(desk, step, b"E8", last),
-        Cause::TooWide => put_step(desk, step, b"E9", last),
-        Cause::ClauseOutside => put_step(desk, step, b"E10", last),
-        Cause::NoEmptyClause => put_step(desk, step, b"E11", last),
-        Cause::RatHint => put_step(desk, step, b"E", last),
-        Cause::HintNotLive => put_step(desk, step, b"E", last),
-        Cause::HintNotUnit => put_step(desk, step, b"E", last),
-        Cause::HintsEnd => put_step(desk, step, b"E", last),
-    }
+    put_refused(desk, step, cause, log_cause_code(cause), last)
 }
 
 /// The lines of values that are refused, with a number.
@@ -249,19 +274,28 @@ fn put_solutions<D: Desk>(desk: &mut D, space: &Option<Space>) -> Result<(), Fai
     }
 }
 
+/// What an ending that tells nothing but itself puts on the Answer port.
+fn plain_answer(ending: &Ending) -> &'static [u8]
+    ensures { result.now ≡ plain_answer ending.now }
+{
+    match ending {
+        Ending::Verified(_) => b"s VERIFIED\n",
+        Ending::ModelRight => b"s MODEL RIGHT\n",
+        Ending::Elaborated(_) => b"s ELABORATED\n",
+        _ => b"",
+    }
+}
+
 /// Writes what an ending puts on the Answer port. It takes no memory.
 #[tactic(auto, unfolding(crate::specs::Endings::answer_text))]
 pub(crate) fn put_answer_text<D: Desk>(desk: &mut D, ending: &Ending) -> Result<(), Failed>
     ensures { PutsAll port.Answer (answer_text ending.now) (D.outside desk.old) result (D.outside desk.new) }
 {
     match ending {
-        Ending::Verified(_) => put_all(desk, Port::Answer, b"s VERIFIED\n"),
         Ending::NotVerified(step, cause) => {
             put_refusal(desk, *step, *cause, b"\ns NOT VERIFIED\n")
         }
-        Ending::ModelRight => put_all(desk, Port::Answer, b"s MODEL RIGHT\n"),
         Ending::ModelWrong(wrong) => put_wrong(desk, *wrong),
-        Ending::Elaborated(_) => put_all(desk, Port::Answer, b"s ELABORATED\n"),
         Ending::NotElaborated(step, cause) => {
             put_log_refusal(desk, *step, *cause, b"\ns NOT ELABORATED\n")
         }
@@ -273,9 +307,7 @@ pub(crate) fn put_answer_text<D: Desk>(desk: &mut D, ending: &Ending) -> Result<
         Ending::NotTrimmed(step, cause) => put_refusal(desk, *step, *cause, b"\ns NOT TRIMMED\n"),
         Ending::Blasted { variables, clauses } => put_blasted(desk, *variables, *clauses),
         Ending::Affine(space) => put_solutions(desk, space),
-        Ending::FormulaRefused(_) => put_all(desk, Port::Answer, b""),
-        Ending::TooLong(_) => put_all(desk, Port::Answer, b""),
-        Ending::TooManyVariables(_) => put_all(desk, Port::Answer, b""),
+        _ => put_all(desk, Port::Answer, plain_answer(ending)),
     }
 }
 
@@ -305,6 +337,21 @@ fn put_offence<D: Desk>(desk: &mut D, offence: Offence) -> Result<(), Failed>
     }
 }
 
+/// The message of an outcome that tells no number.
+fn plain_message(outcome: &Outcome) -> &'static [u8]
+    ensures { result.now ≡ plain_message outcome.now }
+{
+    match outcome {
+        Outcome::Ended(Ending::TooLong(Slot::Formula)) => b"error: limit L2 formula\n",
+        Outcome::Ended(Ending::TooLong(Slot::Second)) => b"error: limit L2 second\n",
+        Outcome::Ended(_) => b"",
+        Outcome::Usage => USAGE,
+        Outcome::ReadFault => b"error: read fault\n",
+        Outcome::WriteFault => b"error: write fault\n",
+        Outcome::Memory => b"error: out of memory\n",
+    }
+}
+
 /// Writes what an outcome puts on the Message port.
 #[tactic(auto, unfolding(crate::specs::Endings::message_text))]
 pub(crate) fn put_message_text<D: Desk>(desk: &mut D, outcome: &Outcome) -> Result<(), Failed>
@@ -312,32 +359,9 @@ pub(crate) fn put_message_text<D: Desk>(desk: &mut D, outcome: &Outcome) -> Resu
 {
     match outcome {
         Outcome::Ended(Ending::FormulaRefused(offence)) => put_offence(desk, *offence),
-        Outcome::Ended(Ending::TooLong(Slot::Formula)) => {
-            put_all(desk, Port::Message, b"error: limit L2 formula\n")
-        }
-        Outcome::Ended(Ending::TooLong(Slot::Second)) => {
-            put_all(desk, Port::Message, b"error: limit L2 second\n")
-        }
-        Outcome::Ended(Ending::Verified(_)) => put_all(desk, Port::Message, b""),
-        Outcome::Ended(Ending::NotVerified(_, _)) => put_all(desk, Port::Message, b""),
-        Outcome::Ended(Ending::ModelRight) => put_all(desk, Port::Message, b""),
-        Outcome::Ended(Ending::ModelWrong(_)) => put_all(desk, Port::Message, b""),
-        Outcome::Ended(Ending::Elaborated(_)) => put_all(desk, Port::Message, b""),
-        Outcome::Ended(Ending::NotElaborated(_, _)) => put_all(desk, Port::Message, b""),
-        Outcome::Ended(Ending::Satisfiable(_)) => put_all(desk, Port::Message, b""),
-        Outcome::Ended(Ending::Unsatisfiable(_)) => put_all(desk, Port::Message, b""),
-        Outcome::Ended(Ending::Unknown(_)) => put_all(desk, Port::Message, b""),
-        Outcome::Ended(Ending::Demonstrated(_, _)) => put_all(desk, Port::Message, b""),
-        Outcome::Ended(Ending::Trimmed(_)) => put_all(desk, Port::Message, b""),
-        Outcome::Ended(Ending::NotTrimmed(_, _)) => put_all(desk, Port::Message, b""),
-        Outcome::Ended(Ending::Blasted { .. }) => put_all(desk, Port::Message, b""),
         Outcome::Ended(Ending::TooManyVariables(number)) => {
             put_place_line(desk, b"error: limit L3 at constraint ", *number)
         }
-        Outcome::Ended(Ending::Affine(_)) => put_all(desk, Port::Message, b""),
-        Outcome::Usage => put_all(desk, Port::Message, USAGE),
-        Outcome::ReadFault => put_all(desk, Port::Message, b"error: read fault\n"),
-        Outcome::WriteFault => put_all(desk, Port::Message, b"error: write fault\n"),
-        Outcome::Memory => put_all(desk, Port::Message, b"error: out of memory\n"),
+        _ => put_all(desk, Port::Message, plain_message(outcome)),
     }
 }
