@@ -1,5 +1,5 @@
 -- From the steps of `blast` to what it does.
-use Rattle.std.proofs.Common.{◌≡◌, ◌≤◌, ℕ, [], length, take, drop, Option, IfSome, inr, refl, ap, sym, subst, ◌∙◌, arith}
+use Rattle.std.proofs.Common.{◌≡◌, ◌≤◌, ℕ, [], length, take, drop, Option, IfSome, Result, Ok, Err, MatchResult, inr, refl, ap, sym, subst, ◌∙◌, arith}
 use Rattle.std.proofs.lemmas.List.{take-append-drop}
 use Rattle.std.proofs.lemmas.Option.{IfSome_then}
 use Rattle.cx_base.specs.Problem.{Problem, clauses_of}
@@ -22,6 +22,7 @@ use Rattle.solve_cli.specs.Seen.{Seen, seen, asks, creates, says, WriteFault, te
 use Rattle.solve_cli.specs.Commands.{second_started, proof_created}
 use Rattle.solve_cli.specs.Blasting.{IsInClauses, BlastFails}
 use Rattle.solve_cli.specs.Happens.{FormulaRead, Judged, Due, Ends, MayWrite, Works}
+use Rattle.solve_cli.specs.Steps.{ReadsInClauses}
 use Rattle.solve_cli.proofs.Gaining.{write_fault}
 use Rattle.solve_cli.proofs.Works.{says-none, all_files, formula_in, stopped}
 
@@ -38,7 +39,7 @@ module _ (name out : Bytes) (limit : ℕ) (old : Seen) (f : Problem) (read : IfS
   due e judged = let none : 0 ≤ limit = omega arith in IfSome_then old.files read (λ files r. inr (record { formula = f; is_formula = r; due = inr (none, judged) }))
 
   -- the formula was not put into clauses
-  pub blast_failed : (o : Outcome) (at : Seen) → at ≡ asks slot.Formula name old → BlastFails f o → Works Blast limit old o at
+  blast_failed : (o : Outcome) (at : Seen) → at ≡ asks slot.Formula name old → BlastFails f o → Works Blast limit old o at
   blast_failed (outcome.Ended (ending.TooManyVariables number)) at is passes = (
     asks slot.Formula name old,
     record {
@@ -53,6 +54,10 @@ module _ (name out : Bytes) (limit : ℕ) (old : Seen) (f : Problem) (read : IfS
   )
   blast_failed outcome.Memory at is fails = stopped second_started Blast limit old at (formula_in Blast limit old f read) is
   blast_failed o at is fails = absurd fails
+
+  pub made_or_failed : (r : Result Problem Outcome) (at : Seen) → at ≡ asks slot.Formula name old → MatchResult r (IsInClauses f) (BlastFails f) → ReadsInClauses name out limit old r at
+  made_or_failed (Ok made) at is made_is = (f, read, made_is, is)
+  made_or_failed (Err o) at is fails = blast_failed o at is fails
 
   module _ (made : Problem) (in_clauses : IsInClauses f made) where
     -- the Proof port may be given its file

@@ -20,6 +20,8 @@ use Rattle.cx_texts.proofs.PrintedProofs.{printed_proof_reads}
 use Rattle.cx_desk.specs.declared.desk.Port.TheVariants as port
 use Rattle.cx_desk.specs.declared.desk.Slot.{Slot}
 use Rattle.cx_desk.specs.declared.desk.Slot.TheVariants as slot
+use Rattle.cx_desk.specs.declared.draining.DrainErr.{DrainErr}
+use Rattle.cx_desk.specs.declared.draining.DrainErr.TheVariants as drained
 use Rattle.cx_desk.specs.Gave.{Gave}
 use Rattle.cx_desk.specs.Outside.{Bytes, Files, Outside}
 use Rattle.cx_desk.specs.SlotBytes.{BytesState}
@@ -40,7 +42,7 @@ use Rattle.solve_cli.specs.declared.ending.Outcome.TheVariants as outcome
 use Rattle.solve_cli.specs.Seen.{Seen, seen, says, ReadFault, WriteFault, text_named}
 use Rattle.solve_cli.specs.Happens.{Judged}
 use Rattle.solve_cli.specs.TwoEnds.{read_by, ReadsAndPrints}
-use Rattle.solve_cli.specs.SlotTexts.{HasRead, IsLateOf, ProvedAs, ElaboratedAs, Elaborates, elaborated_as, first_state}
+use Rattle.solve_cli.specs.SlotTexts.{HasRead, IsLateOf, ProvedAs, ElaboratedAs, Elaborates, elaborated_as, drained_as, drained_with, first_state}
 use Rattle.solve_cli.specs.Proofs.{AreRight, IsRightSoFar}
 use Rattle.solve_cli.specs.Steps.{Ready, HasNoProof, LeftBy}
 use Rattle.solve_cli.proofs.Works.{all_files, if_some_both}
@@ -304,7 +306,7 @@ module _ (f : Problem) (name : Bytes) (limit : ℕ) (old at : Seen) where
   elaboration_left (Err fault.TooLong) h = tt
 
   -- what the rest of the slot makes of it
-  pub log_drained : (e : Ended) (r : Result (Unit {0}) Outcome) (new : Seen) → LeftWith e → RestRead name limit at r new
+  log_drained : (e : Ended) (r : Result (Unit {0}) Outcome) (new : Seen) → LeftWith e → RestRead name limit at r new
       → MatchResult r (λ _. Elaborates f name limit old (Ok e) new) (λ x. Elaborates f name limit old (Err x) new)
   log_drained e (Ok v) new h (same, short) = (
     h.0,
@@ -326,3 +328,8 @@ module _ (f : Problem) (name : Bytes) (limit : ℕ) (old at : Seen) where
   log_drained e (Err outcome.Memory) new h same = (h.1.0, same ∙ h.1.1, IfSome_then old.files h.1.2 (λ files x. x.2))
   log_drained e (Err outcome.ReadFault) new h fault = (h.1.0, subst (λ (x : Seen). ReadFault x new) h.1.1 fault, IfSome_then old.files h.1.2 (λ files x. x.2))
   log_drained e (Err x) new h fails = absurd fails
+
+  pub log_with : (e : Ended) (r : Result (Unit {0}) DrainErr) (new : Seen) → LeftWith e → RestRead name limit at (drained_as r) new → Elaborates f name limit old (drained_with e r) new
+  log_with e (Ok v) new h rest = log_drained e (Ok v) new h rest
+  log_with e (Err drained.Failed) new h rest = log_drained e (Err outcome.ReadFault) new h rest
+  log_with e (Err drained.TooLong) new h rest = log_drained e (Err (outcome.Ended (ending.TooLong slot.Second))) new h rest

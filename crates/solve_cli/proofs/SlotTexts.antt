@@ -27,11 +27,13 @@ use Rattle.xlrup_check.specs.declared.verdict.Fault.{Fault}
 use Rattle.xlrup_check.specs.declared.verdict.Fault.TheVariants as fault
 use Rattle.cx_words.specs.declared.plans.Plan.TheVariants as plan
 use Rattle.solve_cli.specs.declared.ending.Ending.{Ending}
+use Rattle.solve_cli.specs.declared.ending.Ending.TheVariants as ending
 use Rattle.solve_cli.specs.declared.ending.Outcome.{Outcome}
+use Rattle.solve_cli.specs.declared.ending.Outcome.TheVariants as outcome
 use Rattle.solve_cli.specs.Seen.{Seen, seen, ReadFault, text_named}
 use Rattle.solve_cli.specs.Happens.{Judged}
 use Rattle.solve_cli.specs.Steps.{Acts, ReadAtMost, Ready, ReadFails}
-use Rattle.solve_cli.specs.SlotTexts.{HasRead, IsLateOf, JudgesProof, checked_as, drained_as, first_state}
+use Rattle.solve_cli.specs.SlotTexts.{HasRead, IsLateOf, JudgesProof, checked_as, drained_as, drained_with, first_state}
 use Rattle.solve_cli.specs.TwoEnds.{read_by}
 use Rattle.solve_cli.proofs.Acting.{StillRead, still_as, still_itself, may_read_by, few_read_by, text_is}
 use Rattle.solve_cli.proofs.Works.{if_some_both}
@@ -256,10 +258,16 @@ pub fails_later : (name : Bytes) (limit : ℕ) (old at new : Seen) (e : Outcome)
 fails_later name limit old at new e same h = subst (λ (x : Seen). ReadFails slot.Second name limit x e new) same h
 
 -- or it was
-pub judged_within : (f : Problem) (name : Bytes) (limit : ℕ) (old at new : Seen) (e : Ending) → CheckedTo f name old at e → (new ≡ at) × IfSome at.files (λ files. length (text_named name files) ≤ limit)
+judged_within : (f : Problem) (name : Bytes) (limit : ℕ) (old at new : Seen) (e : Ending) → CheckedTo f name old at e → (new ≡ at) × IfSome at.files (λ files. length (text_named name files) ≤ limit)
     → JudgesProof f name limit old (Ok e) new
 judged_within f name limit old at new e judged rest = (
   judged.0,
   rest.0 ∙ judged.1,
   if_some_both old.files judged.2 (subst (λ (x : Seen). IfSome x.files (λ files. length (text_named name files) ≤ limit)) judged.1 rest.1) (λ files j short n. (short, j n)),
 )
+
+-- what a proof was judged to stays where the rest was read
+pub judged_with : (f : Problem) (name : Bytes) (limit : ℕ) (old at new : Seen) (e : Ending) (r : Result (Unit {0}) DrainErr) → CheckedTo f name old at e → RestRead name limit at (drained_as r) new → JudgesProof f name limit old (drained_with e r) new
+judged_with f name limit old at new e (Ok v) judged rest = judged_within f name limit old at new e judged rest
+judged_with f name limit old at new e (Err drained.Failed) judged rest = fails_later name limit old at new outcome.ReadFault judged.1 rest
+judged_with f name limit old at new e (Err drained.TooLong) judged rest = fails_later name limit old at new (outcome.Ended (ending.TooLong slot.Second)) judged.1 rest

@@ -1,5 +1,5 @@
 -- A proof that is trimmed, from its slot to what the command does.
-use Rattle.std.proofs.Common.{◌≡◌, refl, ap, sym, subst, ◌∙◌, ℕ, ◌<◌, ◌≤◌, List, [], ◌++◌, length, take, drop, take-append-drop, Option, IfSome, IfOk, IfErr, MatchResult, Result, Ok, Err, inl, inr, append-nil}
+use Rattle.std.proofs.Common.{◌≡◌, refl, ap, sym, subst, ◌∙◌, ℕ, ◌<◌, ◌≤◌, List, [], ◌++◌, length, take, drop, take-append-drop, Option, IfSome, IfOk, IfErr, MatchResult, Result, Ok, Err, inl, inr}
 use Rattle.std.proofs.lemmas.Option.{IfSome_then}
 use Rattle.std.specs.List.{AllByRecursion}
 use Rattle.cx_base.specs.Problem.{Problem, Unmet}
@@ -8,13 +8,14 @@ use Rattle.cx_base.specs.declared.steps.ProofStep.{ProofStep}
 use Rattle.cx_semantics.specs.declared.cause.Cause.{Cause}
 use Rattle.cx_desk.specs.declared.desk.Slot.TheVariants as slot
 use Rattle.cx_desk.specs.declared.desk.Port.TheVariants as port
+use Rattle.cx_desk.specs.declared.draining.DrainErr.{DrainErr}
+use Rattle.cx_desk.specs.declared.draining.DrainErr.TheVariants as drained
 use Rattle.cx_desk.specs.Outside.{Bytes, Files, Outside}
 use Rattle.cx_desk.specs.Calls.{gained, PutFaulted}
 use Rattle.cx_desk.specs.SlotBytes.{BytesState}
 use Rattle.cx_texts.specs.Printed.{printed_proof, HasProofText}
 use Rattle.cx_texts.specs.ProofText.{ProofReads, proof_steps}
 use Rattle.cx_texts.proofs.PrintedProofs.{printed_proof_reads}
-use Rattle.cx_judgements.specs.ProofTexts.{Accepted, RefusedAt}
 use Rattle.cx_words.specs.declared.plans.Plan.TheVariants as plan
 use Rattle.step_text.specs.Slots.{IsPossible, is_too_long, SlotFrame}
 use Rattle.step_text.specs.SlotAnswers.{PairLeaves}
@@ -22,8 +23,8 @@ use Rattle.xlrup_check.specs.Verdicts.{HasCause, ReadsStand}
 use Rattle.xlrup_check.specs.declared.verdict.Fault.{Fault}
 use Rattle.xlrup_check.specs.declared.verdict.Fault.TheVariants as fault
 use Rattle.proof_trim.specs.Laws.{IsRefutation}
-use Rattle.proof_trim.specs.Outcomes.{AnswersAsJudged, HasRefutation, IsTrimOf, Trims, WhereDone}
-use Rattle.proof_trim.specs.Trimmed.{core_of, trimmed}
+use Rattle.proof_trim.specs.Outcomes.{AnswersAsJudged, IsTrimOf, WhereDone}
+use Rattle.proof_trim.specs.Trimmed.{core_of}
 use Rattle.proof_trim.specs.declared.outcome.Trimmed.{Trimmed}
 use Rattle.proof_trim.specs.declared.outcome.TrimOf.{TrimOf}
 use Rattle.proof_trim.specs.declared.outcome.TrimOf.TheVariants as trimming
@@ -38,10 +39,10 @@ use Rattle.solve_cli.specs.Commands.{proof_created, asked_to}
 use Rattle.solve_cli.specs.Happens.{IsFormula, FormulaRead, Gains, Ends, Stops, Works}
 use Rattle.solve_cli.specs.Proofs.{IsRightSoFar}
 use Rattle.solve_cli.specs.Steps.{Acts, Ready, ReadFails, PutsAnswer}
-use Rattle.solve_cli.specs.SlotTexts.{IsJudgedWithin, KeptBy, IsRightTrimming, TrimmedAs, ReadsTrimmed, TrimsProof, uncut_as, first_state}
+use Rattle.solve_cli.specs.SlotTexts.{IsJudgedWithin, KeptBy, IsRightTrimming, TrimmedAs, ReadsTrimmed, TrimsProof, uncut_as, drained_as, drained_with, first_state}
 use Rattle.solve_cli.specs.Trimming.{TrimsTo, IsTrimmedProof}
 use Rattle.solve_cli.proofs.Gaining.{write_fault}
-use Rattle.solve_cli.proofs.SlotTexts.{IsTextOf, seen-still, read_fault, whole_text, is_long, has_read, acts_by_text}
+use Rattle.solve_cli.proofs.SlotTexts.{IsTextOf, RestRead, fails_later, seen-still, read_fault, whole_text, is_long, has_read, acts_by_text}
 use Rattle.solve_cli.proofs.StepTexts.{have_texts, all_before, trimmed_have}
 use Rattle.solve_cli.proofs.Works.{all_files, answered, files_at, formula_in, if_some_both, judged_ends, says-none, stopped}
 
@@ -121,10 +122,21 @@ module _ (f : Problem) (name : Bytes) (limit : ℕ) (o : Outside) (ready : Ready
       acts_by_text name limit o ready s m (has_read name limit o s m ready frame) (λ w text may is. trim_by r stand w text is (judged text may, kept text may, cause text may))
 
 -- the slot was read to its end
-pub trimmed_within : (f : Problem) (name : Bytes) (limit : ℕ) (old at new : Seen) (t : TrimOf) → TrimmedTo f name old at t → (new ≡ at) × IfSome at.files (λ files. length (text_named name files) ≤ limit)
+trimmed_within : (f : Problem) (name : Bytes) (limit : ℕ) (old at new : Seen) (t : TrimOf) → TrimmedTo f name old at t → (new ≡ at) × IfSome at.files (λ files. length (text_named name files) ≤ limit)
     → ReadsTrimmed f name limit old (Ok t) new
 trimmed_within f name limit old at new t to rest =
     (rest.0 ∙ to.0, if_some_both old.files to.1 (subst (λ (x : Seen). IfSome x.files (λ files. length (text_named name files) ≤ limit)) to.0 rest.1) (λ files j short. (short, j)))
+
+-- what a proof was trimmed to stays where the rest was read
+pub trimmed_with : (f : Problem) (name : Bytes) (limit : ℕ) (old at new : Seen) (t : TrimOf) (r : Result (Unit {0}) DrainErr) → TrimmedTo f name old at t → RestRead name limit at (drained_as r) new → ReadsTrimmed f name limit old (drained_with t r) new
+trimmed_with f name limit old at new t (Ok v) to rest = trimmed_within f name limit old at new t to rest
+trimmed_with f name limit old at new t (Err drained.Failed) to rest = fails_later name limit old at new outcome.ReadFault to.0 rest
+trimmed_with f name limit old at new t (Err drained.TooLong) to rest = fails_later name limit old at new (outcome.Ended (ending.TooLong slot.Second)) to.0 rest
+
+pub right_with : (f : Problem) (t : TrimOf) (r : Result (Unit {0}) DrainErr) → IsRightTrimming f t → IfOk (drained_with t r) (IsRightTrimming f)
+right_with f t (Ok v) right = right
+right_with f t (Err drained.Failed) right = tt
+right_with f t (Err drained.TooLong) right = tt
 
 -- ---- the command, as its desk tells it
 

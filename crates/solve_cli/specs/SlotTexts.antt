@@ -88,6 +88,12 @@ drained_as (Ok v) = Ok v
 drained_as (Err drained.Failed) = Err outcome.ReadFault
 drained_as (Err drained.TooLong) = Err (outcome.Ended (ending.TooLong slot.Second))
 
+-- what was found, where the rest of the second text was read
+abbrev pub drained_with : {T : Type 0} → T → Result (Unit {0}) DrainErr → Result T Outcome
+drained_with found (Ok v) = Ok found
+drained_with found (Err drained.Failed) = Err outcome.ReadFault
+drained_with found (Err drained.TooLong) = Err (outcome.Ended (ending.TooLong slot.Second))
+
 -- ---- a log
 
 -- what the elaborator says of a log, and what it left on the Proof port

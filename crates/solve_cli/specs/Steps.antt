@@ -14,11 +14,13 @@ use Rattle.cx_texts.specs.declared.offence.Offence.TheVariants as offence
 use Rattle.cnfx_reader.specs.declared.from_refusal.FromRefusal.{FromRefusal}
 use Rattle.cnfx_reader.specs.declared.from_refusal.FromRefusal.TheVariants as refusal
 use Rattle.cx_words.specs.declared.plans.Plan.{Plan}
+use Rattle.cx_words.specs.declared.plans.Plan.TheVariants as plan
 use Rattle.solve_cli.specs.declared.load.Texts.{Texts}
 use Rattle.solve_cli.specs.declared.ending.Ending.{Ending}
 use Rattle.solve_cli.specs.declared.ending.Ending.TheVariants as ending
 use Rattle.solve_cli.specs.declared.ending.Outcome.{Outcome}
 use Rattle.solve_cli.specs.declared.ending.Outcome.TheVariants as outcome
+use Rattle.solve_cli.specs.Blasting.{IsInClauses}
 use Rattle.solve_cli.specs.Endings.{answer_text}
 use Rattle.solve_cli.specs.Seen.{Seen, asks, says, ReadFault, WriteFault, text_named}
 use Rattle.solve_cli.specs.Commands.{second_started, proof_created, asked_to, second_text}
@@ -81,6 +83,12 @@ abbrev pub ReadsFormula : Bytes → ℕ → Seen → Result Problem Outcome → 
 ReadsFormula name limit old result new = MatchResult result
     (λ f. (new ≡ asks slot.Formula name old) × IfSome old.files (λ files. FormulaRead limit (text_named name files) f))
     (λ o. FormulaFails name limit old o new)
+
+-- the formula was read, and put into clauses
+abbrev pub ReadsInClauses : Bytes → Bytes → ℕ → Seen → Result Problem Outcome → Seen → Type 0
+ReadsInClauses name out limit old result new = MatchResult result
+    (λ made. (f : Problem) × IfSome old.files (λ files. FormulaRead limit (text_named name files) f) × IsInClauses f made × (new ≡ asks slot.Formula name old))
+    (λ o. Works (plan.Blast name out) limit old o new)
 
 -- an ending was found, with all that is asked for and written before its answer; or the command was cut off
 abbrev pub Finds : Plan → ℕ → Seen → Result Ending Outcome → Seen → Type 0

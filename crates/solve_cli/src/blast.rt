@@ -1,10 +1,10 @@
 //! A formula in clauses, written on the Proof port.
-ghost use Rattle.std.specs.Prelude.{◌≤◌, MatchResult};
+ghost use Rattle.std.specs.Prelude.{◌≡◌, ◌≤◌, List, ℕ, None, MatchResult};
 ghost use Rattle.cx_words.specs.declared.plans.Plan.TheVariants as plan;
 ghost use Rattle.solve_cli.specs.Seen.{seen};
 ghost use Rattle.solve_cli.specs.Blasting.{IsInClauses, BlastFails};
 ghost use Rattle.solve_cli.specs.Commands.{Unasked};
-ghost use Rattle.solve_cli.specs.Steps.{Acts, Finds};
+ghost use Rattle.solve_cli.specs.Steps.{Acts, Finds, ReadsInClauses};
 
 use crate::load::{create_proof, read_formula_of};
 use crate::{Ending, Outcome};
@@ -26,6 +26,21 @@ fn in_clauses(alloc: Global, formula: &Formula) -> Result<Formula, Outcome>
     }
 }
 
+/// Reads the formula, and puts it into clauses.
+fn read_in_clauses<D: Desk>(
+    alloc: Global,
+    desk: &mut D,
+    formula: Name,
+    limit: u64,
+) -> Result<Formula, Outcome>
+    requires unasked { (D.outside desk.old).asked.formula ≡ None }
+    requires limit { limit ≤ 4294967295 }
+    ensures { (out : List ℕ) → Acts limit (D.outside desk.old) (D.outside desk.new) (λ w. ReadsInClauses formula out limit (seen w (D.outside desk.old)) result (seen w (D.outside desk.new))) }
+{
+    let formula = read_formula_of(alloc, desk, formula, limit)?;
+    in_clauses(alloc, &formula)
+}
+
 /// `blast`: reads the formula, puts it into clauses, and only then gives the Proof port its file and writes them there.
 pub(crate) fn blast_formula<D: Desk>(
     alloc: Global,
@@ -38,8 +53,7 @@ pub(crate) fn blast_formula<D: Desk>(
     requires limit { limit ≤ 4294967295 }
     ensures { Acts limit (D.outside desk.old) (D.outside desk.new) (λ w. Finds (plan.Blast formula out) limit (seen w (D.outside desk.old)) result (seen w (D.outside desk.new))) }
 {
-    let formula = read_formula_of(alloc, desk, formula, limit)?;
-    let made = in_clauses(alloc, &formula)?;
+    let made = read_in_clauses(alloc, desk, formula, limit)?;
     create_proof(desk, Some(out))?;
     match put_formula(desk, Port::Proof, &made) {
         Ok(()) => Ok(Ending::Blasted {

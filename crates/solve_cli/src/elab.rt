@@ -74,6 +74,5 @@ pub(crate) fn elaborate_log<D: Desk>(
     let judged = elaborate_on(alloc, desk, formula, &mut reader);
     let ending = elaborated(judged)?;
     let rest = reader.drain_from(desk);
-    drained(rest)?;
-    Ok(ending)
+    drained(ending, rest)
 }

@@ -11,7 +11,7 @@ ghost use Rattle.xlrup_check.specs.Verdicts.{IsJudgedBy, HasCause};
 ghost use Rattle.solve_cli.specs.Happens.{refusal_of, Judged};
 ghost use Rattle.solve_cli.specs.Seen.{seen};
 ghost use Rattle.solve_cli.specs.Steps.{Acts, Ready};
-ghost use Rattle.solve_cli.specs.SlotTexts.{JudgesProof, LeavesSlot, checked_as, drained_as};
+ghost use Rattle.solve_cli.specs.SlotTexts.{JudgesProof, LeavesSlot, checked_as, drained_with};
 
 use crate::proof_on_desk::ProofOnDesk;
 use crate::{Ending, Outcome, WrongAnswer};
@@ -55,12 +55,12 @@ fn checked(judged: Result<Verdict, Fault>) -> Result<Ending, Outcome>
     }
 }
 
-/// What follows where the rest of the second text was read.
-pub(crate) fn drained(rest: Result<(), DrainErr>) -> Result<(), Outcome>
-    ensures { result ≡ drained_as rest }
+/// What was found, where the rest of the second text was read.
+pub(crate) fn drained<T: Drop>(found: T, rest: Result<(), DrainErr>) -> Result<T, Outcome>
+    ensures { result ≡ drained_with found rest }
 {
     match rest {
-        Ok(()) => Ok(()),
+        Ok(()) => Ok(found),
         Err(DrainErr::Failed) => Err(Outcome::ReadFault),
         Err(DrainErr::TooLong) => Err(Outcome::Ended(Ending::TooLong(Slot::Second))),
     }
@@ -82,8 +82,7 @@ pub(crate) fn judge_proof<D: Desk>(
     let judged = check_on(alloc, desk, formula, &mut reader);
     let ending = checked(judged)?;
     let rest = reader.drain_from(desk);
-    drained(rest)?;
-    Ok(ending)
+    drained(ending, rest)
 }
 
 /// The cause for which printed values are refused; none where memory ran out.

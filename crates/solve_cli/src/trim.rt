@@ -83,8 +83,7 @@ fn read_trimmed<D: Desk>(
     let judged = trim_on(alloc, desk, formula, &mut reader);
     let trimmed = uncut(judged)?;
     let rest = reader.drain_from(desk);
-    drained(rest)?;
-    Ok(trimmed)
+    drained(trimmed, rest)
 }
 
 /// Writes the step that was taken last on the Proof port.

@@ -1,4 +1,4 @@
-use Rattle.std.proofs.Common.{ap, sym, subst, ◌∙◌, Result, Ok, Err, IfOk, IfErr}
+use Rattle.std.proofs.Common.{ap, sym, subst, ◌∙◌, Result, Err, IfOk, IfErr}
 use Rattle.std.proofs.lemmas.Result.{err_from_is_err_and}
 use Rattle.cx_desk.specs.declared.desk.Slot.TheVariants.{Second}
 use Rattle.cx_desk.specs.Outside.{Bytes}
@@ -14,8 +14,8 @@ use Rattle.solve_cli.specs.Seen.{seen}
 use Rattle.solve_cli.specs.Steps.{Acts}
 use Rattle.solve_cli.specs.SlotTexts.{IsRightTrimming, ReadsTrimmed, first_state}
 use Rattle.solve_cli.proofs.Acting.{acts_then}
-use Rattle.solve_cli.proofs.SlotTexts.{RestRead, has_read, rest_acts, fails_later, still_started}
-use Rattle.solve_cli.proofs.SlotTrims.{TrimsText, right_of, trim_acts, trimmed_within}
+use Rattle.solve_cli.proofs.SlotTexts.{has_read, rest_acts, still_started}
+use Rattle.solve_cli.proofs.SlotTrims.{TrimsText, right_of, right_with, trim_acts, trimmed_with}
 use Rattle.solve_cli.proofs.trim.read_trimmed.Goals as goal
 
 pub drain_from-rest-requires : goal.drain_from-rest-requires
@@ -44,29 +44,6 @@ returns-in_err-trimmed-clause-read g c = λ name ready.
     let is = err_from_is_err_and c.from_residual.result c.from_residual.ensures.1 in
     subst (λ x. Acts limit o m (λ w. ReadsTrimmed f name limit (seen w o) x (seen w m))) (sym (is.1 ∙ ap Err is.2)) trims
 
-pub returns-in_err-drained-clause-read : goal.returns-in_err-drained-clause-read
-returns-in_err-drained-clause-read g c = λ name ready.
-    let f = c.args.formula.now in
-    let limit = c.args.limit in
-    let o = g.D.Desk.outside c.args.desk.now in
-    let m = g.D.Desk.outside c.trim_on-judged.new.desk in
-    let p = g.D.Desk.outside c.drain_from-rest.new.desk in
-    let e = c.in_err-drained.field-0.0 in
-    let s = c.trim_on-judged.new.reader.bytes in
-    let r = c.trim_on-judged.result in
-    let first = c.new-reader.ensures in
-    let frame = subst (λ (x : SlotState). SlotFrame x.bytes o s m) first c.trim_on-judged.ensures.slot.frame in
-    let judged = subst (λ (x : SlotState). (text : Bytes) → IsPossible s m text → IfOk r (AnswersAsJudged (PairLeaves proof_steps text) f (x, o))) first c.trim_on-judged.ensures.judged in
-    let kept = subst (λ (x : SlotState). (text : Bytes) → IsPossible s m text → WhereDone r (IsTrimOf (PairLeaves proof_steps text) f (x, o))) first c.trim_on-judged.ensures.trimmed in
-    let cause = subst (λ (x : SlotState). (text : Bytes) → IsPossible s m text → IfErr r (HasCause (is_too_long x.bytes o text) o.faults.reads m.faults.reads)) first c.trim_on-judged.ensures.cause in
-    let trims = subst (λ (x : Result TrimOf Outcome). Acts limit o m (λ w. TrimsText f name limit (seen w o) x (seen w m))) (sym c.in_ok-trimmed.ensures)
-    (trim_acts f name limit o ready s m frame r judged kept cause c.trim_on-judged.ensures.slot.reads) in
-    let rest = subst (λ (x : Result (Unit {0}) Outcome). Acts limit m p (λ w. RestRead name limit (seen w m) x (seen w p))) (sym c.in_err-drained.ensures)
-    (rest_acts name limit o ready s m (has_read name limit o s m ready frame) c.drain_from-rest.result p c.drain_from-rest.ensures) in
-    let is = err_from_is_err_and c.from_residual-in_err-drained.result c.from_residual-in_err-drained.ensures.1 in
-    subst (λ x. Acts limit o p (λ w. ReadsTrimmed f name limit (seen w o) x (seen w p))) (sym (is.1 ∙ ap Err is.2))
-    (acts_then trims rest (λ w j h. fails_later name limit (seen w o) (seen w m) (seen w p) e j.0 h))
-
 pub returns-clause-read : goal.returns-clause-read
 returns-clause-read g c = λ name ready.
     let f = c.args.formula.now in
@@ -84,9 +61,9 @@ returns-clause-read g c = λ name ready.
     let cause = subst (λ (x : SlotState). (text : Bytes) → IsPossible s m text → IfErr r (HasCause (is_too_long x.bytes o text) o.faults.reads m.faults.reads)) first c.trim_on-judged.ensures.cause in
     let trims = subst (λ (x : Result TrimOf Outcome). Acts limit o m (λ w. TrimsText f name limit (seen w o) x (seen w m))) (sym c.in_ok-trimmed.ensures)
     (trim_acts f name limit o ready s m frame r judged kept cause c.trim_on-judged.ensures.slot.reads) in
-    let rest = subst (λ (x : Result (Unit {0}) Outcome). Acts limit m p (λ w. RestRead name limit (seen w m) x (seen w p))) (sym c.in_ok-drained.ensures)
-    (rest_acts name limit o ready s m (has_read name limit o s m ready frame) c.drain_from-rest.result p c.drain_from-rest.ensures) in
-    acts_then trims rest (λ w j h. trimmed_within f name limit (seen w o) (seen w m) (seen w p) t j h)
+    let rest = rest_acts name limit o ready s m (has_read name limit o s m ready frame) c.drain_from-rest.result p c.drain_from-rest.ensures in
+    subst (λ (x : Result TrimOf Outcome). Acts limit o p (λ w. ReadsTrimmed f name limit (seen w o) x (seen w p))) (sym c.drained.ensures)
+    (acts_then trims rest (λ w j h. trimmed_with f name limit (seen w o) (seen w m) (seen w p) t c.drain_from-rest.result j h))
 
 pub returns-clause-right : goal.returns-clause-right
 returns-clause-right g c =
@@ -96,4 +73,5 @@ returns-clause-right g c =
     let r = c.trim_on-judged.result in
     let some = some_text c.trim_on-judged.new.reader.bytes m in
     let kept = subst (λ (x : SlotState). WhereDone r (IsTrimOf (PairLeaves proof_steps some.0) f (x, o))) c.new-reader.ensures (c.trim_on-judged.ensures.trimmed some.0 some.1) in
-    subst (λ (x : Result TrimOf Outcome). IfOk x (IsRightTrimming f)) (sym c.in_ok-trimmed.ensures) (right_of f c.args.limit o some.0 r kept c.trim_on-judged.ensures.accepted c.trim_on-judged.ensures.core)
+    let right = subst (λ (x : Result TrimOf Outcome). IfOk x (IsRightTrimming f)) (sym c.in_ok-trimmed.ensures) (right_of f c.args.limit o some.0 r kept c.trim_on-judged.ensures.accepted c.trim_on-judged.ensures.core) in
+    subst (λ (x : Result TrimOf Outcome). IfOk x (IsRightTrimming f)) (sym c.drained.ensures) (right_with f c.in_ok-trimmed.trimmed c.drain_from-rest.result right)
