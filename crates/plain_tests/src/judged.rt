@@ -9,13 +9,13 @@ ghost use Rattle.cx_semantics.specs.LogRules.{log_rules, after_log_step, derives
 ghost use Rattle.proof_rules.specs.Judges.{JudgesBy};
 ghost use Rattle.plain_tests.specs.Judged.{judgement_of};
 
-use crate::log_rules::{admit, judge_chained, judge_original, judge_original_parity};
+use crate::log_rules::{
+    admit, judge_chained, judge_clause_of_parity, judge_original, judge_original_parity,
+    judge_parity_of_clauses, judge_sum,
+};
 use cx_base::{Formula, IdList, IntList, LogStep};
 use cx_semantics::Cause;
-use proof_rules::{
-    JudgeMarks, JudgeRefusal, Kind, Live, judge_clause_of_named_parity, judge_named_sum,
-    judge_parity_of_named_clauses,
-};
+use proof_rules::{JudgeRefusal, Kind, Live};
 use std::alloc::{AllocError, Global};
 
 /// How a log is judged. Steps count from 1.
@@ -100,8 +100,7 @@ fn take_parity(
     ensures taken { OnOk result (live.new ≡ after_log_step live.old (step.Parity id lits.now sources.now)) }
 {
     let target = admit(alloc, formula, live, Kind::Parities, id, lits)?;
-    let mut marks = JudgeMarks::new(alloc);
-    match judge_named_sum(&mut marks, live, &target, sources.as_slice()) {
+    match judge_sum(alloc, live, &target, sources.as_slice()) {
         Ok(()) => {}
         Err(why) => return Err(why),
     }
@@ -122,8 +121,7 @@ fn take_clause_of_parity(
     ensures taken { OnOk result (live.new ≡ after_log_step live.old (step.ClauseOfParity id lits.now source)) }
 {
     let target = admit(alloc, formula, live, Kind::Clauses, id, lits)?;
-    let mut marks = JudgeMarks::new(alloc);
-    match judge_clause_of_named_parity(&mut marks, live, &target, source) {
+    match judge_clause_of_parity(alloc, live, &target, source) {
         Ok(()) => {}
         Err(why) => return Err(why),
     }
@@ -144,8 +142,7 @@ fn take_parity_of_clauses(
     ensures taken { OnOk result (live.new ≡ after_log_step live.old (step.ParityOfClauses id lits.now sources.now)) }
 {
     let target = admit(alloc, formula, live, Kind::Parities, id, lits)?;
-    let mut marks = JudgeMarks::new(alloc);
-    match judge_parity_of_named_clauses(&mut marks, live, &target, sources.as_slice()) {
+    match judge_parity_of_clauses(alloc, live, &target, sources.as_slice()) {
         Ok(()) => {}
         Err(why) => return Err(why),
     }

@@ -1,11 +1,12 @@
 //! What the rules of log steps ask, by a look at each constraint.
-ghost use Rattle.std.specs.Prelude.{◌≡◌, ◌∷◌, [], not, IfOk, MatchBool};
+ghost use Rattle.std.specs.Prelude.{◌≡◌, ◌∷◌, ◌++◌, [], not, IfOk, MatchBool};
 ghost use Rattle.cx_base.specs.Integers.{literals};
 ghost use Rattle.cx_base.specs.Parity.{normal_form};
 ghost use Rattle.cx_semantics.specs.declared.cause.Cause.TheVariants as causes;
 ghost use Rattle.cx_semantics.specs.Judging.{refused_where};
-ghost use Rattle.cx_semantics.specs.LogRules.{chained, is_original, IsOriginalParity};
-ghost use Rattle.cx_semantics.specs.ProofRules.{adding};
+ghost use Rattle.cx_semantics.specs.LogRules.{chained, naming, is_original, IsOriginalParity};
+ghost use Rattle.cx_semantics.specs.ProofRules.{adding, summing, clause_of_parity, parity_of_clauses};
+ghost use Rattle.cx_semantics.specs.Tables.{named};
 ghost use Rattle.proof_rules.specs.Judges.{JudgesBy};
 ghost use Rattle.proof_rules.specs.Kinds.{chosen};
 ghost use Rattle.plain_tests.specs.Judged.{original_parity};
@@ -15,7 +16,10 @@ use crate::fresh::saturate;
 use crate::recovered::stands;
 use cx_base::{Formula, IntList, Lit, LitList};
 use cx_semantics::Cause;
-use proof_rules::{JudgeRefusal, Kind, Live, admit_into, fill_parity_content};
+use proof_rules::{
+    JudgeMarks, JudgeRefusal, Kind, Live, admit_into, fill_parity_content,
+    judge_clause_of_named_parity, judge_named_sum, judge_parity_of_named_clauses,
+};
 use std::alloc::{AllocError, Global};
 
 /// The literals of what is added: its variables are the formula's, and its id is not live.
@@ -98,4 +102,40 @@ pub(crate) fn judge_original_parity(
     } else {
         Err(JudgeRefusal::Wrong(Cause::NotInFormula))
     }
+}
+
+/// A parity is the sum of those of these ids.
+pub(crate) fn judge_sum(
+    alloc: Global,
+    live: &Live,
+    target: &LitList,
+    ids: &[u64],
+) -> Result<(), JudgeRefusal>
+    ensures { JudgesBy (naming live.now.parities ids.now ++ summing target.now (named live.now.parities ids.now)) result }
+{
+    judge_named_sum(&mut JudgeMarks::new(alloc), live, target, ids)
+}
+
+/// The parity of this id implies a clause.
+pub(crate) fn judge_clause_of_parity(
+    alloc: Global,
+    live: &Live,
+    target: &LitList,
+    id: u64,
+) -> Result<(), JudgeRefusal>
+    ensures { JudgesBy (naming live.now.parities (id ∷ []) ++ clause_of_parity target.now (named live.now.parities (id ∷ []))) result }
+{
+    judge_clause_of_named_parity(&mut JudgeMarks::new(alloc), live, target, id)
+}
+
+/// The clauses of these ids imply a parity.
+pub(crate) fn judge_parity_of_clauses(
+    alloc: Global,
+    live: &Live,
+    target: &LitList,
+    ids: &[u64],
+) -> Result<(), JudgeRefusal>
+    ensures { JudgesBy (naming live.now.clauses ids.now ++ parity_of_clauses target.now (named live.now.clauses ids.now)) result }
+{
+    judge_parity_of_named_clauses(&mut JudgeMarks::new(alloc), live, target, ids)
 }
