@@ -94,8 +94,9 @@ fn enter_clause(state: &mut SearchState, lits: &[Lit], id: u64, lbd: u32) -> Res
     ensures { OnOk result (EntersClause state.old state.new lits.now (literal_at lits.now 0) id lbd) }
 {
     let reference = state.arena.add(lits, id, lbd, true)?;
-    state.watches.attach(&state.arena, &state.trail, reference)?;
+    // The true literal guards the second one, so propagation does not look at the level again.
     state.trail.imply(lits[0], Reason::Clause(reference));
+    state.watches.attach(&state.arena, &state.trail, reference)?;
     Ok(())
 }
 

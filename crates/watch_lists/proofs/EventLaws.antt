@@ -2,7 +2,7 @@
 use Rattle.std.proofs.Common.{◌≡◌, ◌≢◌, ℕ, ◌<◌, ◌+◌, ◌-◌, ◌*◌, ◌≤◌, Bool, List, [], ◌∷◌, ◌++◌, length, get_or, set, take, min, Option, None, IsSome, sym, ap, ◌∙◌, subst, refl, inl, inr, ◌⊎◌, ⊎_elim, arith}
 use Rattle.std.specs.List.{Contains, All}
 use Rattle.std.proofs.lemmas.Bool.{cases_eq, cases_lt, false≢true}
-use Rattle.std.proofs.lemmas.List.{length-append, get_or-set_same, get_or-set_other, length-set, length-take, get_or-take, get_or-append_right, get_or_append_left, get_or_past}
+use Rattle.std.proofs.lemmas.List.{length-append, get_or-set_same, get_or-set_other, length-set, length-take, get_or-take, get_or-append_right, get_or_append_left, get_or_past, get_or_push}
 use Rattle.std.proofs.lemmas.List.Elements.{All-get_or}
 use Rattle.cx_trail.specs.declared.entry.Reason.{Reason}
 use Rattle.watch_lists.specs.Raising.{IsRaised}
@@ -10,11 +10,12 @@ use Rattle.cx_base.specs.Literals.{Literal, negate}
 use Rattle.cx_trail.specs.declared.entry.Entry.{Entry}
 use Rattle.cx_trail.specs.Sequence.{TrailState, IsTrail, IsTrueIn, IsFalseIn, IsOpenIn, entry_at, no_entry, pushed, TakesBack}
 use Rattle.cx_base.proofs.LiteralLaws.{negate-negate}
-use Rattle.cx_trail.proofs.ValueLaws.{truth_cases, entry_kept}
+use Rattle.cx_trail.proofs.ValueLaws.{truth_cases, entry_kept, not_both, true_pushed}
 use Rattle.clause_arena.specs.Clauses.{ArenaState, Stored, clause_at, literals_in, literals_at, IsLive}
 use Rattle.watch_lists.specs.Truths.{IsQuiet}
 use Rattle.watch_lists.specs.declared.lists.Side.{Side}
 use Rattle.watch_lists.specs.Watching.{clause_of, partner, held_at, side_at, IsAttached, IsThird, looked_at, AreNodes, AreGuarded, IsBehind, WatchState, Fits}
+use Rattle.watch_lists.specs.Attaching.{CanBeWatched, literal_at}
 use Rattle.watch_lists.specs.Walking.{AllPassed, IsRest, Goes}
 use Rattle.watch_lists.proofs.NodeLaws.{guarded_longer, partner_attached, partner_partner, other_inside}
 
@@ -100,6 +101,26 @@ fits_pushed w a t level l reason up f =
         few = λ k h. omega (arith, f.behind.few k h);
         low = λ k i h g. subst (λ (x : Entry). x.level ≤ k) (sym (entry_kept t.entries (it ∷ []) i (omega (arith, f.behind.few k h)))) (f.behind.low k i h g);
       };
+    }
+
+-- a clause whose first literal is put on the trail is watched as before
+pub watched_pushed : (variables : ℕ) (t : TrailState) (lits : List Literal) (reason : Reason) → IsTrail (pushed t t.level (literal_at lits 0) reason) → CanBeWatched variables t lits → CanBeWatched variables (pushed t t.level (literal_at lits 0) reason) lits
+watched_pushed variables t lits reason sound w =
+    let it : Entry = record { literal = literal_at lits 0; level = t.level; reason = reason } in
+    let n = length-append t.entries (it ∷ []) in
+    record {
+      long = w.long;
+      within = w.within;
+      apart = w.apart;
+      first = not_both (pushed t t.level (literal_at lits 0) reason) (literal_at lits 0) sound (true_pushed t (pushed t t.level (literal_at lits 0) reason) t.level (literal_at lits 0) reason refl);
+      second = λ i s. ⊎_elim
+          (λ (h : i < length t.entries).
+          let same = entry_kept t.entries (it ∷ []) i h in
+          ap (λ (x : Entry). x.level) same ∙ w.second i (h, ap (λ (x : Entry). x.literal) (sym same) ∙ s.1))
+          (λ (h : length t.entries ≤ i).
+          let last : i ≡ length t.entries = omega (arith, s.0, n) in
+          ap (λ x. (entry_at (t.entries ++ it ∷ []) x).level) last ∙ ap (λ (x : Entry). x.level) (get_or_push t.entries it no_entry (length t.entries) refl))
+          (cases_lt i (length t.entries));
     }
 
 -- a shorter trail

@@ -2,29 +2,50 @@ use Rattle.std.proofs.Common.{◌≡◌, ◌≤◌, true, refl, sym, ap, ◌∙�
 use Rattle.std.proofs.lemmas.Result.{err_from_is_err_and}
 use Rattle.cx_base.specs.Literals.{Literal}
 use Rattle.clause_arena.specs.Clauses.{Stored}
-use Rattle.cx_trail.specs.Sequence.{pushed, IsOpenIn}
+use Rattle.cx_trail.specs.Sequence.{TrailState, pushed, IsOpenIn, IsTrail}
 use Rattle.cx_trail.specs.declared.entry.Reason.TheVariants as reason
 use Rattle.watch_lists.specs.Attaching.{CanBeWatched, literal_at}
 use Rattle.watch_lists.specs.Watching.{Fits, IsAttached, no_literal}
-use Rattle.watch_lists.proofs.EventLaws.{fits_arena, fits_pushed}
+use Rattle.watch_lists.proofs.EventLaws.{fits_arena, fits_pushed, watched_pushed}
 use Rattle.cdcl_core.proofs.AddedClauses.{added_is_live, added_literals}
+use Rattle.cdcl_core.proofs.jumping.enter_clause.Goals.{After-imply}
 use Rattle.cdcl_core.proofs.jumping.enter_clause.Goals as goal
 use Rattle.cdcl_core.proofs.JumpLaws.{first_any}
 
+-- the first literal is at the end of the trail
+put : (c : After-imply) → c.imply.new.self ≡ pushed c.args.state.now.trail c.args.state.now.trail.level (literal_at c.args.lits.now 0) (reason.Clause c.in_ok-reference.reference)
+put c =
+    let t = c.args.state.now.trail in
+    c.imply.ensures.pushed ∙ ap (λ l. pushed t t.level l (reason.Clause c.in_ok-reference.reference)) (c.index-lits-0.is ∙ first_any c.args.lits.now c.index-lits-0.result no_literal (let long = c.requires.watched.long in omega (arith, long)))
+
 pub attach-requires-clause-fits : goal.attach-requires-clause-fits
-attach-requires-clause-fits c = fits_arena c.args.state.now.watches c.args.state.now.arena c.add.new.self c.args.state.now.trail _ c.in_ok-reference.ensures.added c.requires.fits
+attach-requires-clause-fits c =
+    let t = c.args.state.now.trail in
+    subst (Fits c.args.state.now.watches c.add.new.self) (sym (put (goal.at.attach-requires-clause-fits c).After-imply))
+    (fits_pushed c.args.state.now.watches c.add.new.self t t.level (literal_at c.args.lits.now 0) (reason.Clause c.in_ok-reference.reference) (omega arith)
+    (fits_arena c.args.state.now.watches c.args.state.now.arena c.add.new.self t _ c.in_ok-reference.ensures.added c.requires.fits))
 
 pub returns : goal.returns
 returns c =
     let t = c.args.state.now.trail in
-    let is : c.imply.new.self ≡ pushed t t.level (literal_at c.args.lits.now 0) (reason.Clause (length c.args.state.now.arena.clauses)) =
-    c.imply.ensures.pushed ∙ ap (λ l. pushed t t.level l (reason.Clause c.in_ok-reference.reference)) (c.index-lits-0.is ∙ first_any c.args.lits.now c.index-lits-0.result no_literal (let long = c.requires.watched.long in omega (arith, long))) ∙ ap (λ r. pushed t t.level (literal_at c.args.lits.now 0) (reason.Clause r)) c.in_ok-reference.ensures.ok in
     record {
-      put = record { trail = is; sound = c.imply.ensures.sound; order = refl; phases = refl; given = refl; next = refl; conflicts = refl; learned = refl; reductions = refl; tidies = refl; tidy_below = refl };
+      put = record {
+        trail = put (goal.at.returns c).After-imply ∙ ap (λ r. pushed t t.level (literal_at c.args.lits.now 0) (reason.Clause r)) c.in_ok-reference.ensures.ok;
+        sound = c.imply.ensures.sound;
+        order = refl;
+        phases = refl;
+        given = refl;
+        next = refl;
+        conflicts = refl;
+        learned = refl;
+        reductions = refl;
+        tidies = refl;
+        tidy_below = refl;
+      };
       added = c.in_ok-reference.ensures.added;
       attached = subst (IsAttached c.attach.new.self.attached) c.in_ok-reference.ensures.ok c.in_ok-attach.ensures.attached;
       others = λ r apart. c.attach.ensures.others r (λ same. apart (same ∙ c.in_ok-reference.ensures.ok));
-      fits = subst (Fits c.attach.new.self c.add.new.self) (sym is) (fits_pushed c.attach.new.self c.add.new.self t t.level (literal_at c.args.lits.now 0) (reason.Clause (length c.args.state.now.arena.clauses)) (omega arith) c.attach.ensures.fits);
+      fits = c.attach.ensures.fits;
       units = refl;
     }
 
@@ -36,8 +57,12 @@ attach-requires-clause-live c =
 pub attach-requires-clause-watched : goal.attach-requires-clause-watched
 attach-requires-clause-watched c =
     let k : Stored = record { literals = c.args.lits.now; id = c.args.id; lbd = c.args.lbd; learned = true } in
-    subst (CanBeWatched c.args.state.now.watches.variables c.args.state.now.trail)
-    (sym (added_literals c.args.state.now.arena c.add.new.self k c.in_ok-reference.reference c.in_ok-reference.ensures.added c.in_ok-reference.ensures.ok)) c.requires.watched
+    let vars = c.args.state.now.watches.variables in
+    let is = put (goal.at.attach-requires-clause-watched c).After-imply in
+    subst (CanBeWatched vars c.imply.new.self)
+    (sym (added_literals c.args.state.now.arena c.add.new.self k c.in_ok-reference.reference c.in_ok-reference.ensures.added c.in_ok-reference.ensures.ok))
+    (subst (λ (t : TrailState). CanBeWatched vars t c.args.lits.now) (sym is)
+    (watched_pushed vars c.args.state.now.trail c.args.lits.now (reason.Clause c.in_ok-reference.reference) (subst IsTrail is c.imply.ensures.sound) c.requires.watched))
 
 pub imply-requires-clause-high : goal.imply-requires-clause-high
 imply-requires-clause-high c =

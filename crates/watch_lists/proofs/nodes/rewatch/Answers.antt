@@ -1,6 +1,6 @@
 use Rattle.std.proofs.Common.{◌≡◌, ◌≢◌, ℕ, List, set, ap, sym, ◌∙◌, subst, eqb-true}
 use Rattle.std.proofs.lemmas.Bool.{eqb-false}
-use Rattle.cx_base.specs.Literals.{Literal, code_of}
+use Rattle.cx_base.specs.Literals.{code_of}
 use Rattle.cx_base.proofs.LiteralLaws.{same_code}
 use Rattle.watch_lists.specs.declared.lists.Side.{Side}
 use Rattle.watch_lists.specs.Watching.{partner, held_at, third_at}

@@ -1,4 +1,4 @@
-use Rattle.std.proofs.Common.{ℕ, ◌<◌, ◌∙◌, Bool, List, length, set, sym, ap, subst, arith}
+use Rattle.std.proofs.Common.{ℕ, ◌<◌, Bool, List, length, sym, ap, subst, arith}
 use Rattle.watch_lists.specs.declared.lists.Side.{Side}
 use Rattle.watch_lists.specs.Watching.{partner}
 use Rattle.watch_lists.specs.Visits.{IsRewatched}
