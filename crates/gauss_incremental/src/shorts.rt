@@ -123,8 +123,7 @@ pub(crate) fn parity_at(
     requires { place < length shorts.now }
     ensures { IfOk result (λ p. p ≡ (short_at shorts.now place).lits) }
 {
-    let mut lits = Vec::new(alloc);
-    lits.extend_from_slice(shorts[place].lits.as_slice())?;
+    let lits = shorts[place].lits.as_slice().to_vec(alloc)?;
     Ok(LitList::from_vec(lits))
 }
 
@@ -133,7 +132,7 @@ pub(crate) fn number_at(alloc: Global, shorts: &[Short], place: usize) -> Result
     requires { place < length shorts.now }
     ensures { IfOk result (λ k. k ≡ (short_at shorts.now place).number ∷ []) }
 {
-    let mut numbers = Vec::new(alloc);
+    let mut numbers = Vec::with_capacity(alloc, 1)?;
     numbers.push(shorts[place].number)?;
     Ok(IdList::from_vec(numbers))
 }
