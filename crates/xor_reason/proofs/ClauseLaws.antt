@@ -1,11 +1,12 @@
 -- The literals chosen for a written parity are a reason's clause.
-use Rattle.std.proofs.Common.{◌≡◌, ℕ, ◌+◌, ◌<◌, ◌≤◌, suc, Bool, true, false, not, ◌||◌, eqb-true, nat_eq, List, [], ◌∷◌, ◌++◌, length, Option, Some, None, refl, sym, ap, ◌∙◌, subst, arith, true≢false, inl, inr, get_or, take}
+use Rattle.std.proofs.Common.{◌≡◌, ℕ, ◌+◌, ◌<◌, ◌≤◌, suc, Bool, true, false, not, ◌||◌, eqb-true, nat_eq, List, [], ◌∷◌, ◌++◌, length, Option, Some, None, refl, sym, ap, ◌∙◌, subst, arith, true≢false, inl, inr, get_or, set, take}
 use Rattle.std.specs.List.{list_any}
 use Rattle.std.specs.Cmp.{nat_cmp_total}
 use Rattle.std.specs.FinSet as set
-use Rattle.std.proofs.lemmas.Bool.{cases_eq, eq-eqb, ne_eqb, or_parts}
+use Rattle.std.proofs.lemmas.Bool.{cases_eq, cases_lt, eq-eqb, ne_eqb, or_parts}
 use Rattle.std.proofs.Math.Seq.{take-suc}
 use Rattle.std.proofs.lemmas.List.Elements.{AllZip-push}
+use Rattle.std.proofs.lemmas.List.{get_or-set_other, length-set, take_all, take_more_set}
 use Rattle.cx_base.specs.Literals.{Literal, differ, same_literal, value_of, literal_true}
 use Rattle.cx_base.specs.Problem.{clause_met, parity_met}
 use Rattle.cx_base.specs.Parity.{NormalForm, HasOneOfEach, occurs_odd}
@@ -18,7 +19,7 @@ use Rattle.cx_semantics.proofs.RecoveredLaws.{Distinct, len-distinct, or_apart}
 use Rattle.cx_semantics.proofs.Members.{has_at_head, has_behind, has_split}
 use Rattle.cx_semantics.proofs.Widths.{variable_in, length-variables, variables}
 use Rattle.cx_trail.specs.Sequence.{TrailState, IsTrail, IsTrueIn, IsFalseIn}
-use Rattle.parity_engine.specs.Written.{IsWritten, Rises}
+use Rattle.parity_engine.specs.Written.{IsWritten, Rises, literals_with}
 use Rattle.parity_engine.proofs.Rising.{none_below, rising_low}
 use Rattle.xor_reason.specs.LiteralChoice.{IsLiteralFor, AreLiteralsFor}
 use Rattle.xor_reason.specs.ReasonClause.{AgreesWithTrail, AreFalseBut, IsReasonFor, IsReasonClause}
@@ -35,6 +36,34 @@ choice_more trail implied lits clause more i v l m are lt read at is pushed =
     subst (λ ls. AreLiteralsFor trail implied ls more) (sym longer)
     (subst (λ ms. AreLiteralsFor trail implied (take i lits ++ l ∷ []) ms) (sym pushed)
     (AllZip-push (λ (x y : Literal). IsLiteralFor trail implied x.variable y) (take i lits) clause l m are (subst (λ x. IsLiteralFor trail implied x m) at is)))
+
+-- the literals below a place are those for the list's, and the others are the list's
+pub record AreTurnedBelow (trail : TrailState) (implied : Option Literal) (lits turned : List Literal) (place : ℕ) : Type 0 where
+  pub long : length turned ≡ length lits
+  pub below : AreLiteralsFor trail implied (take place lits) (take place turned)
+  pub above : (i : ℕ) (d : Literal) → place ≤ i → get_or turned i d ≡ get_or lits i d
+
+pub none_turned : (trail : TrailState) (implied : Option Literal) (lits turned : List Literal) → turned ≡ lits → AreTurnedBelow trail implied lits turned 0
+none_turned trail implied lits turned same = record {
+  long = ap length same;
+  below = tt;
+  above = λ i d high. ap (λ ls. get_or ls i d) same;
+}
+
+pub one_turned : (trail : TrailState) (implied : Option Literal) (lits turned : List Literal) (place v : ℕ) (l m : Literal) → AreTurnedBelow trail implied lits turned place → place < length turned
+    → l ≡ get_or turned place l → v ≡ l.variable → IsLiteralFor trail implied v m → AreTurnedBelow trail implied lits (set turned place m) (place + 1)
+one_turned trail implied lits turned place v l m t less read at is =
+    let inside : place < length lits = omega (arith, t.long) in
+    record {
+      long = length-set turned place m ∙ t.long;
+      below = choice_more trail implied lits (take place turned) (take (place + 1) (set turned place m)) place v l m t.below inside (read ∙ t.above place l (omega arith)) at is (take_more_set turned place m less);
+      above = λ i d high. get_or-set_other turned place i m d (λ (same : i ≡ place). omega arith) ∙ t.above i d (omega arith);
+    }
+
+pub all_turned : (trail : TrailState) (implied : Option Literal) (lits turned : List Literal) (place : ℕ) → AreTurnedBelow trail implied lits turned place → length turned ≤ place → AreLiteralsFor trail implied lits turned
+all_turned trail implied lits turned place t all =
+    subst (λ ls. AreLiteralsFor trail implied ls turned) (take_all place lits (omega (arith, t.long)))
+    (subst (λ ms. AreLiteralsFor trail implied (take place lits) ms) (take_all place turned all) t.below)
 
 same_variable : (trail : TrailState) (implied : Option Literal) (v : ℕ) (m : Literal) → IsLiteralFor trail implied v m → m.variable ≡ v
 same_variable trail None v m is = is.0
@@ -69,6 +98,46 @@ low_written form lits written l h = rising_low 1 (variables lits) l.variable wri
 
 pub has_written : (form : NormalForm) (lits : List Literal) → IsWritten form lits → (l : Literal) → has_literal lits l ≡ true → set.contains form.variables l.variable ≡ true
 has_written form lits written l h = contains_written form lits written l.variable ∙ variable_in lits l h
+
+-- numbers that rise are told by which are among them
+no_less : (x y : ℕ) (xs ys : List ℕ) → Rises (y + 1) ys → list_any (λ z. nat_eq z x) (x ∷ xs) ≡ list_any (λ z. nat_eq z x) (y ∷ ys) → x < y → ⊥
+no_less x y xs ys rises same less =
+    let there : list_any (λ z. nat_eq z x) (x ∷ xs) ≡ true = ap (λ b. b || list_any (λ z. nat_eq z x) xs) (eq-eqb x x refl) in
+    true≢false (sym there ∙ same ∙ none_below y (y ∷ ys) x (omega arith, rises) less)
+
+same_rising : (least : ℕ) (xs ys : List ℕ) → Rises least xs → Rises least ys → ((n : ℕ) → list_any (λ z. nat_eq z n) xs ≡ list_any (λ z. nat_eq z n) ys) → xs ≡ ys
+same_rising least [] [] rx ry same = refl
+same_rising least [] (y ∷ ys) rx ry same = absurd (true≢false (sym (same y ∙ ap (λ b. b || list_any (λ z. nat_eq z y) ys) (eq-eqb y y refl))))
+same_rising least (x ∷ xs) [] rx ry same = absurd (true≢false (sym (ap (λ b. b || list_any (λ z. nat_eq z x) xs) (eq-eqb x x refl)) ∙ same x))
+same_rising least (x ∷ xs) (y ∷ ys) rx ry same = λ i. first i ∷ same_rising (x + 1) xs ys rx.1 rises rest i
+  where
+    first : x ≡ y
+    first =
+        elim (cases_lt x y) [
+          | inl less ↦ absurd (no_less x y xs ys ry.1 (same x) less)
+          | inr most ↦ elim (cases_lt y x) [
+            | inl less ↦ absurd (no_less y x ys xs rx.1 (sym (same y)) less)
+            | inr least_too ↦ omega arith
+          ]
+        ]
+
+    rises : Rises (x + 1) ys
+    rises = subst (λ n. Rises (n + 1) ys) (sym first) ry.1
+
+    rest : (n : ℕ) → list_any (λ z. nat_eq z n) xs ≡ list_any (λ z. nat_eq z n) ys
+    rest n =
+        elim (cases_lt n (x + 1)) [
+          | inl low ↦ none_below (x + 1) xs n rx.1 low ∙ sym (none_below (x + 1) ys n rises low)
+          | inr high ↦
+              sym (ap (λ b. b || list_any (λ z. nat_eq z n) xs) (ne_eqb x n (λ e. omega arith))) ∙ same n
+              ∙ ap (λ b. b || list_any (λ z. nat_eq z n) ys) (ne_eqb y n (λ e. omega (arith, first)))
+        ]
+
+-- a form is written in one way
+pub written_once : (form : NormalForm) (a b : List Literal) → IsWritten form a → IsWritten form b → a ≡ b
+written_once form a b wa wb =
+    let same = same_rising 1 (variables a) (variables b) wa.rises wb.rises (λ n. sym (contains_written form a wa n) ∙ contains_written form b wb n) in
+    wa.signs ∙ ap (literals_with form.right_side) same ∙ sym wb.signs
 
 written_set : (form : NormalForm) (lits : List Literal) → IsWritten form lits → set.from_list (variables lits) ≡ form.variables
 written_set form lits written =

@@ -6,5 +6,5 @@ mod literals;
 mod reason;
 mod sums;
 
-pub use reason::{ReasonOf, reason_clause};
+pub use reason::{ReasonOf, clause_in_place, reason_clause};
 pub use sums::{ReasonPair, sum_of_reasons};

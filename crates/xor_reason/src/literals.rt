@@ -49,3 +49,17 @@ pub(crate) fn literals_for(
     }
     Ok(LitList::from_vec(clause))
 }
+
+/// A literal for each of these, in order, of the same variables, in their place.
+pub(crate) fn turned_literals(trail: &Trail, implied: &Option<Lit>, lits: LitList) -> LitList
+    requires assigned { (l : Literal) → IsTrue (has_literal lits l) → IsAssignedIn trail.now.entries l.variable }
+    ensures literals { AreLiteralsFor trail.now implied.now lits result }
+    ensures sound { IsTrail trail.now }
+{
+    let _vars = trail.vars();
+    let mut clause = lits.into_vec();
+    for place in 0..clause.len() {
+        clause[place] = literal_for(trail, implied, clause[place].var());
+    }
+    LitList::from_vec(clause)
+}

@@ -1,11 +1,12 @@
 //! Why a row implied a literal, or was missed.
 ghost use Rattle.std.specs.Prelude.{◌≡◌, length, IfOk, IsSome};
+ghost use Rattle.cx_base.specs.Parity.{normal_form};
 ghost use Rattle.parity_engine.specs.Equations.{sum_of_numbers};
 ghost use Rattle.parity_engine.specs.Written.{IsWritten, AreRising};
 ghost use Rattle.parity_engine.specs.State.{OfNamed, named_at};
 ghost use Rattle.xor_reason.specs.ReasonClause.{AreAssigned, IsReasonClause, IsReasonFor};
 
-use crate::literals::literals_for;
+use crate::literals::{literals_for, turned_literals};
 use cx_base::{IdList, Lit, LitList, Row};
 use cx_trail::Trail;
 use parity_engine::ParityEngine;
@@ -51,4 +52,16 @@ pub fn reason_clause<P: ParityEngine>(
         sources,
         clause,
     })
+}
+
+/// The clause of the reason that a row gives which is written so, in the place of its parity.
+///
+/// The row is as `reason_clause` asks.
+pub fn clause_in_place(trail: &Trail, implied: Option<Lit>, parity: LitList) -> LitList
+    requires written { IsWritten (normal_form parity) parity }
+    requires assigned { AreAssigned trail.now (normal_form parity) }
+    requires kind { IsReasonFor trail.now implied (normal_form parity) }
+    ensures { IsReasonClause trail.now implied (normal_form parity) parity result }
+{
+    turned_literals(trail, &implied, parity)
 }
