@@ -159,6 +159,8 @@ module _ (a b : ArenaState) (moves : List Move) (f : IsRenamed a b moves) where
         has = subst (λ l. IsTrue (set.contains has.named.form.variables l.variable)) (sym literal) has.has;
         others = λ v low other is. subst (λ xs. IsAssignedIn xs v) (sym (front moves i entries)) (assigned_moved moves (take i entries) v (has.others v low (λ q. other (q ∙ ap (λ l. l.variable) (sym literal))) is));
         met = λ values agrees. has.met values (agree_before moves (suc i) entries values agrees);
+        numbers = has.numbers;
+        sums = has.sums;
       }
 
   reasons_moved : (entries : List TrailEntry) (units : ℕ) (e : State) → ReasonTies a entries units e → ReasonTies b (moved_entries moves entries) units e

@@ -149,6 +149,8 @@ module _ (formula : Problem) (c : SearchState) (e : State) (lits : List Literal)
           has = subst (λ x. IsTrue (set.contains has.named.form.variables x.literal.variable)) same has.has;
           others = λ v from_1 apart is. subst (λ es. IsAssignedIn es v) (same_take i (omega (arith, h))) (has.others v from_1 (λ q. apart (q ∙ ap (λ x. x.literal.variable) same)) is);
           met = λ values agrees. has.met values (subst (λ es. (m : Literal) → IsTrueIn es m → IsTrue (literal_true values m)) (sym (same_take (suc i) (omega (arith, h)))) agrees);
+          numbers = has.numbers;
+          sums = has.sums;
         }
 
   few_then : D.tidies ≡ false → HasFewAdditions formula D.next (first_row_id D.next) 0 after

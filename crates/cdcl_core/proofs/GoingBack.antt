@@ -195,6 +195,8 @@ module _ (formula : Problem) (k : ℕ) (c d : SearchState) (e f : State) (rows :
         has = subst (λ x. Rattle.std.specs.Prelude.IsTrue (Rattle.std.specs.FinSet.contains has.named.form.variables x.literal.variable)) same has.has;
         others = λ v from_1 apart is. subst (λ es. Rattle.cx_trail.specs.Sequence.IsAssignedIn es v) (same_take i (omega (arith, h))) (has.others v from_1 (λ q. apart (q ∙ ap (λ x. x.literal.variable) same)) is);
         met = λ values agrees. has.met values (subst (λ es. (l : Literal) → Rattle.cx_trail.specs.Sequence.IsTrueIn es l → Rattle.std.specs.Prelude.IsTrue (Rattle.cx_base.specs.Literals.literal_true values l)) (sym (same_take (suc i) (omega (arith, h)))) agrees);
+        numbers = has.numbers;
+        sums = has.sums;
       }
 
   -- ---- counts

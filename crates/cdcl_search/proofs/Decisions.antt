@@ -88,7 +88,7 @@ module _ (formula : Problem) (c : SearchState) (e : State) (s : Search) (ok : Is
             units = units_grow (record c { order = o }) (c.trail.level + 1) l reason.Decision s.moment.tables.clauses c.next s.trail (record { literal = l; level = suc (level_of s.trail); why = decided }) c.units.items t.units (λ _ i past less. above i past less);
             engine = record { vars = t.engine.vars; wide = t.engine.wide; theirs = t.engine.theirs; few = t.engine.few; fed = fed_now };
             reasons = reasons_grow (record c { order = o }) (c.trail.level + 1) l reason.Decision (opened e)
-                (reasons_stay (record c { order = o }) e (opened e) (λ i row _ h. renamed_reason e (opened e) c.trail.entries i row h h.named h.is h.implied refl refl) t.reasons)
+                (reasons_stay (record c { order = o }) e (opened e) (λ i row _ h. renamed_reason e (opened e) c.trail.entries i row h h.named h.is h.implied refl refl refl refl) t.reasons)
                 (subst (λ (x : TrailEntry). 0 < x.level) (sym (at_end (record c { order = o }) (c.trail.level + 1) l reason.Decision)) (omega arith));
             counts = record { marked = t.counts.marked; falling = t.counts.falling; many = t.counts.many; few = t.counts.few };
             ids = t.ids;

@@ -1,5 +1,5 @@
 -- What the ties say under another state of the engine.
-use Rattle.std.proofs.Common.{◌≡◌, sym, ◌∙◌, subst, ℕ, ◌≤◌, ◌<◌, false, List, length, Some}
+use Rattle.std.proofs.Common.{◌≡◌, sym, ap, ◌∙◌, subst, ℕ, ◌≤◌, ◌<◌, false, List, length, Some}
 use Rattle.std.specs.List.{AllByRecursion}
 use Rattle.std.specs.Prelude.{IsTrue}
 use Rattle.std.specs.FinSet as set
@@ -12,14 +12,16 @@ use Rattle.cx_trail.specs.Sequence.{entry_at}
 use Rattle.parity_engine.specs.State.{State, Named, named_at, MeetsForm}
 use Rattle.search_steps.specs.Trail.{Entry}
 use Rattle.search_steps.specs.Search.{Search}
+use Rattle.parity_engine.specs.Equations.{sum_of_numbers}
+use Rattle.parity_engine.specs.Written.{AreRising}
 use Rattle.search_steps.specs.Engine.{HoldsValues}
 use Rattle.search_steps.specs.Laws.{HaveTheirs}
 use Rattle.cdcl_search.specs.declared.state.SearchState.{SearchState}
 use Rattle.cdcl_search.specs.Ties.{Ties, LogTies, IsRowReasonAt, HasReasonOf, HaveReasons, IsFed, first_row_id}
 
 -- a row that is named anew, with the same form and level, is the reason that it was
-pub renamed_reason : (e u : State) (entries : List TrailEntry) (i row : ℕ) (h : IsRowReasonAt e entries i row) (n : Named) → named_at u row ≡ Some n → n.in_conflict ≡ false → n.form ≡ h.named.form → n.level ≡ h.named.level → IsRowReasonAt u entries i row
-renamed_reason e u entries i row h n is calm form level = record {
+pub renamed_reason : (e u : State) (entries : List TrailEntry) (i row : ℕ) (h : IsRowReasonAt e entries i row) (n : Named) → named_at u row ≡ Some n → n.in_conflict ≡ false → n.form ≡ h.named.form → n.level ≡ h.named.level → n.sources ≡ h.named.sources → u.parities ≡ e.parities → IsRowReasonAt u entries i row
+renamed_reason e u entries i row h n is calm form level sources parities = record {
   named = n;
   is = is;
   implied = calm;
@@ -27,6 +29,8 @@ renamed_reason e u entries i row h n is calm form level = record {
   has = subst (λ f. IsTrue (set.contains f.variables (entry_at entries i).literal.variable)) (sym form) h.has;
   others = λ v low apart has. h.others v low apart (subst (λ f. IsTrue (set.contains f.variables v)) form has);
   met = λ values agrees. subst (MeetsForm values) (sym form) (h.met values agrees);
+  numbers = subst (λ ps. AreRising 1 (length ps) n.sources) (sym parities) (subst (AreRising 1 (length e.parities)) (sym sources) h.numbers);
+  sums = form ∙ h.sums ∙ ap (sum_of_numbers e.parities) (sym sources) ∙ ap (λ ps. sum_of_numbers ps n.sources) (sym parities);
 }
 
 module _ (c : SearchState) (e u : State) (rows_stay : (i row : ℕ) → i < length c.trail.entries → IsRowReasonAt e c.trail.entries i row → IsRowReasonAt u c.trail.entries i row) where

@@ -114,7 +114,7 @@ module _ (formula : Problem) (c : SearchState) (e : State) (rows : List (List Li
     trail = t.trail;
     units = t.units;
     engine = record { vars = t.engine.vars; wide = length-set e.values _ _ ∙ t.engine.wide; theirs = t.engine.theirs; few = t.engine.few; fed = fed_more };
-    reasons = reasons_stay c e (assigned e l.variable (not l.negative)) (λ i row _ h. renamed_reason e (assigned e l.variable (not l.negative)) c.trail.entries i row h h.named h.is h.implied refl refl) t.reasons;
+    reasons = reasons_stay c e (assigned e l.variable (not l.negative)) (λ i row _ h. renamed_reason e (assigned e l.variable (not l.negative)) c.trail.entries i row h h.named h.is h.implied refl refl refl refl) t.reasons;
     counts = t.counts;
     ids = t.ids;
     levels = t.levels;

@@ -71,6 +71,8 @@ same_row_reason e old new i row at before upto h = record {
   has = subst (λ y. IsTrue (set.contains h.named.form.variables y.literal.variable)) (sym at) h.has;
   others = λ v low apart has. subst (λ ys. IsAssignedIn ys v) (sym before) (h.others v low (λ same. apart (same ∙ ap (λ y. y.literal.variable) (sym at))) has);
   met = λ values agrees. h.met values (subst (λ ys. (l : Literal) → IsTrueIn ys l → IsTrue (literal_true values l)) upto agrees);
+  numbers = h.numbers;
+  sums = h.sums;
 }
 
 module _ (c : SearchState) (level : ℕ) (l : Literal) (why : Reason) where

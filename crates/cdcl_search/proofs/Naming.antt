@@ -136,10 +136,10 @@ module _ (formula : Problem) (c : SearchState) (e : State) (rows : List (List Li
             let here : IsRowReasonAt e c.trail.entries i row = subst (IsRowReasonAt e c.trail.entries i) (eqb-true r row is) h in
             let alike = same_as here.named here.is in
             subst (IsRowReasonAt (names e row n mood) c.trail.entries i) (sym (eqb-true r row is))
-            (renamed_reason e (names e row n mood) c.trail.entries i row here n named_here (calm i within here) alike.0 alike.2))
+            (renamed_reason e (names e row n mood) c.trail.entries i row here n named_here (calm i within here) alike.0 alike.2 alike.1 refl))
             (λ is.
             let apart : r ≢ row = eqb-false r row is in
-            renamed_reason e (names e row n mood) c.trail.entries i r h h.named (get_or-set_other e.named row r (Some n) None apart ∙ h.is) h.implied refl refl)
+            renamed_reason e (names e row n mood) c.trail.entries i r h h.named (get_or-set_other e.named row r (Some n) None apart ∙ h.is) h.implied refl refl refl refl)
 
     pub names_tied : ((i : ℕ) → i < length c.trail.entries → IsRowReasonAt e c.trail.entries i row → n.in_conflict ≡ false) → Ties formula c (names e row n mood) rows s
     names_tied calm = other_engine formula c rows s e (names e row n mood) refl refl refl refl (names_keep calm) t
@@ -191,6 +191,8 @@ module _ (formula : Problem) (c : SearchState) (e : State) (rows : List (List Li
         met = λ v agrees.
             let on = subst (λ es. (m : Literal) → IsTrueIn es m → IsTrue (literal_true v m)) whole agrees in
             implied.met v (all_by (literal_true v) (known e) (λ m k. on m (stands_behind m (known_stands m k)))) (on l stands_last);
+        numbers = now.numbers;
+        sums = now.sums;
       }
 
       pub implied_tied : IsSearchIn c.tidies formula e.parities s → HasAll c → IsTrail (pushed c.trail c.trail.level l (reason.Row row))
@@ -214,7 +216,7 @@ module _ (formula : Problem) (c : SearchState) (e u : State) (rows : List (List 
         ok,
         told_is,
         other_engine formula c rows s e (record e { mood = Calm }) refl refl refl refl
-            (reasons_stay c e (record e { mood = Calm }) (λ i row _ h. renamed_reason e (record e { mood = Calm }) c.trail.entries i row h h.named h.is h.implied refl refl) t.reasons) t,
+            (reasons_stay c e (record e { mood = Calm }) (λ i row _ h. renamed_reason e (record e { mood = Calm }) c.trail.entries i row h h.named h.is h.implied refl refl refl refl) t.reasons) t,
         f,
       )
 

@@ -5,13 +5,18 @@ use Rattle.std.specs.FinSet as set
 use Rattle.std.proofs.lemmas.List.{get_or-take}
 use Rattle.std.proofs.lemmas.Option.{same_Some}
 use Rattle.cx_base.specs.Literals.{Literal, same_literal}
-use Rattle.cx_base.specs.Parity.{NormalForm}
+use Rattle.cx_base.specs.Parity.{NormalForm, normal_form}
 use Rattle.cx_semantics.specs.Chain.{has_literal}
 use Rattle.cx_trail.specs.declared.entry.Entry.{Entry}
 use Rattle.cx_trail.specs.Sequence.{TrailState, IsTrail, IsTrueIn, IsFalseBefore, entry_at, no_entry}
 use Rattle.conflict_learn.specs.Learning.{IsAntecedent}
 use Rattle.conflict_learn.proofs.ChainOfResolutions.{by_cases}
-use Rattle.parity_engine.specs.State.{State, named_at, OfNamed}
+use Rattle.parity_engine.specs.State.{State, Named, named_at, OfNamed}
+use Rattle.parity_engine.proofs.Named.{named_row}
+use Rattle.xor_reason.proofs.ClauseLaws.{written_once}
+use Rattle.cx_base.specs.Integers.{integers_of}
+use Rattle.search_steps.specs.LogSteps.{row_events}
+use Rattle.cdcl_search.specs.declared.rows.RowIds.{RowIds}
 use Rattle.parity_engine.specs.Equations.{sum_of_numbers}
 use Rattle.parity_engine.specs.Written.{IsWritten, AreRising}
 use Rattle.xor_reason.specs.ReasonClause.{AreAssigned, IsReasonFor, GivesLiteral, IsReasonClause}
@@ -19,6 +24,8 @@ use Rattle.xor_reason.specs.declared.reason.ReasonOf.{ReasonOf}
 use Rattle.search_steps.proofs.Sets.{not_both}
 use Rattle.cdcl_search.specs.Ties.{IsRowReasonAt}
 use Rattle.cdcl_search.specs.Explaining.{Explains, IsReasonOf}
+use Rattle.cdcl_search.specs.RowClauses.{ExplainsRow, IsClauseOfRow, parity_of, row_clause_events, sources_in}
+use Rattle.cdcl_search.specs.declared.row_clauses.RowClause.{RowClause}
 use Rattle.cdcl_search.proofs.OneSign.{one_sign}
 use Rattle.cdcl_search.proofs.RowSteps.{in_form, low_form}
 
@@ -103,3 +110,60 @@ module _ (t : TrailState) (e : State) (l : Literal) (row : ℕ) (r : IsReasonOf 
             let same_j : f.0 ≡ o.0 = sound.distinct f.0 o.0 f.1.0 o.2 (ap (λ x. x.variable) f.1.1 ∙ sym o.3) in
             let low = o.1 in
             (f.0, omega (arith, same_j, low, same_place), f.1.1)
+
+  -- the clause that was made of the row
+  module _ (m : RowClause) (made : IsClauseOfRow e t row l m) where
+    abbrev the_reason : ReasonOf
+    the_reason = record { parity = parity_of m; sources = why.named.sources; clause = m.clause }
+
+    sums_named : OfNamed e row (λ n. n.form ≡ sum_of_numbers e.parities why.named.sources)
+    sums_named n is = subst (λ k. k.form ≡ sum_of_numbers e.parities why.named.sources) (same_Some why.named n (sym why.is ∙ is)) why.sums
+
+    named_here : named_at e m.row ≡ Some why.named
+    named_here = ap (named_at e) made.row_is ∙ why.is
+
+    pub made_explains : ExplainsRow e t m
+    made_explains = record {
+      named = why.named;
+      is = named_here;
+      written = made.written why.named why.is;
+      explains = subst (λ ns. Explains e.parities t (record { parity = parity_of m; sources = ns; clause = m.clause })) (ap sources_in (sym named_here)) (explains the_reason made.written why.numbers sums_named made.clause);
+    }
+
+    pub made_has_it : has_literal m.clause l ≡ true
+    made_has_it = has_it the_reason made.written why.numbers sums_named made.clause
+
+    pub made_is_antecedent : IsTrail t → IsAntecedent t l m.clause
+    made_is_antecedent = is_antecedent the_reason made.written why.numbers sums_named made.clause
+
+-- the steps of a row are the same from a parity and sources that are asked for later
+pub same_events : (ids : RowIds) (e : State) (m : RowClause) (parity : List Literal) (sources : List ℕ) → IsSome (named_at e m.row) → OfNamed e m.row (λ n. IsWritten n.form (parity_of m)) → OfNamed e m.row (λ n. IsWritten n.form parity)
+    → OfNamed e m.row (λ n. (sources ≡ n.sources) × AreRising 1 (length e.parities) sources × (n.form ≡ sum_of_numbers e.parities sources)) → row_events ids.sum (integers_of parity) sources ids.clause (integers_of m.clause) ≡ row_clause_events ids e m
+same_events ids e m parity sources some written later named =
+    let (n, is) = named_row e m.row some in
+    ap (λ p. row_events ids.sum (integers_of p) sources ids.clause (integers_of m.clause)) (written_once n.form parity (parity_of m) (later n is) (written n is))
+    ∙ ap (λ ns. row_events ids.sum (integers_of (parity_of m)) ns ids.clause (integers_of m.clause)) ((named n is).0 ∙ ap sources_in (sym is))
+
+-- what the reason of a parity asks for, of the parity's own form
+module _ (t : TrailState) (e : State) (l : Literal) (row : ℕ) (r : IsReasonOf e t.entries l row) (lits : List Literal) (written : OfNamed e row (λ n. IsWritten n.form lits)) where
+  the_named : (n : Named) × (named_at e row ≡ Some n)
+  the_named = named_row e row (is_named t e l row r)
+
+  as_named : IsWritten the_named.0.form lits
+  as_named = written the_named.0 the_named.1
+
+  pub own_written : IsWritten (normal_form lits) lits
+  own_written = subst (λ f. IsWritten f lits) (sym as_named.normal) as_named
+
+  pub own_assigned : AreAssigned t (normal_form lits)
+  own_assigned = subst (AreAssigned t) (sym as_named.normal) (all_assigned t e l row r the_named.0 the_named.1)
+
+  pub own_gives : IsReasonFor t (Some l) (normal_form lits)
+  own_gives = subst (IsReasonFor t (Some l)) (sym as_named.normal) (gives_literal t e l row r the_named.0 the_named.1)
+
+  pub is_clause_of_row : (m : RowClause) → m.row ≡ row → parity_of m ≡ lits → IsReasonClause t (Some l) (normal_form lits) lits m.clause → IsClauseOfRow e t row l m
+  is_clause_of_row m row_is parity_is clause = record {
+    row_is = row_is;
+    written = λ n is. subst (IsWritten n.form) (sym parity_is) (written n is);
+    clause = λ n is. subst (λ ls. IsReasonClause t (Some l) n.form ls m.clause) (sym parity_is) (subst (λ f. IsReasonClause t (Some l) f lits m.clause) ((written n is).normal) clause);
+  }

@@ -12,3 +12,4 @@ pub mod Deleting
 pub mod Deciding
 pub mod Calls
 pub mod Rows
+pub mod RowClauses

@@ -19,6 +19,8 @@ use Rattle.watch_lists.specs.Truths.{AreOthersFalse}
 use Rattle.watch_lists.specs.Watching.{Fits, IsAttached, WatchState}
 use Rattle.search_policy.specs.Standing.{AllStand, OrderState}
 use Rattle.parity_engine.specs.State.{State, Named, named_at, MeetsForm}
+use Rattle.parity_engine.specs.Equations.{sum_of_numbers}
+use Rattle.parity_engine.specs.Written.{AreRising}
 use Rattle.search_steps.specs.Trail.{Entry, held, level_of, by_clause}
 use Rattle.search_steps.specs.Quiet.{HasTrue}
 use Rattle.search_steps.specs.Search.{Search, IsSearchIn}
@@ -138,7 +140,8 @@ pub record AreUnits (table : Table) (next : ℕ) (t : TrailState) (es : List Ent
 abbrev pub AgreesUpTo : ℕ → List TrailEntry → List Bool → Type 0
 AgreesUpTo n entries values = (l : Literal) → IsTrueIn (take n entries) l → IsTrue (literal_true values l)
 
--- The row was named for the literal at place i: it has its variable, its others are assigned before, and it is met once the literal is true.
+-- The row was named for the literal at place i: it has its variable, its others are assigned before, it is met once the literal is true, and
+-- it is the sum of its sources.
 pub record IsRowReasonAt (e : State) (entries : List TrailEntry) (i row : ℕ) : Type 0 where
   pub named : Named
   pub is : named_at e row ≡ Some named
@@ -147,6 +150,8 @@ pub record IsRowReasonAt (e : State) (entries : List TrailEntry) (i row : ℕ) :
   pub has : IsTrue (set.contains named.form.variables (entry_at entries i).literal.variable)
   pub others : (v : ℕ) → 1 ≤ v → v ≢ (entry_at entries i).literal.variable → IsTrue (set.contains named.form.variables v) → IsAssignedIn (take i entries) v
   pub met : (values : List Bool) → AgreesUpTo (suc i) entries values → MeetsForm values named.form
+  pub numbers : AreRising 1 (length e.parities) named.sources
+  pub sums : named.form ≡ sum_of_numbers e.parities named.sources
 
 -- the clause of the arena has the literal at place i, and its others were false before
 pub record IsClauseReasonOf (arena : ArenaState) (entries : List TrailEntry) (i r : ℕ) : Type 0 where

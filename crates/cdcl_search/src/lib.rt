@@ -9,6 +9,7 @@ pub mod integers;
 pub mod logs;
 mod models;
 mod propagation;
+mod row_clauses;
 pub mod rows;
 mod searching;
 pub mod source;

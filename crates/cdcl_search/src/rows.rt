@@ -101,7 +101,7 @@ fn only_source(sources: &[u64]) -> Option<u64>
 
 /// The steps of a row.
 #[derive(Drop)]
-enum RowSteps {
+pub(crate) enum RowSteps {
     /// Its clause, from its one source. No list is made for this one step.
     Alone(LogStep),
     /// Its sum, its clause, and the sum's deletion.
@@ -109,7 +109,7 @@ enum RowSteps {
 }
 
 /// The steps of a row: its clause, from its one source; or its sum, its clause, and the sum's deletion.
-fn row_steps(
+pub(crate) fn row_steps(
     alloc: Global,
     ids: RowIds,
     parity: &LitList,
@@ -150,7 +150,7 @@ impl Unmade<LogEvent> for UnmadeRow<'_> {
 }
 
 /// Tells steps that were made.
-fn tell_made<L: Sink<Item = LogEvent>>(
+pub(crate) fn tell_made<L: Sink<Item = LogEvent>>(
     log: &mut SearchLog<L>,
     steps: RowSteps,
 ) -> Result<(), CoreFault>

@@ -15,7 +15,8 @@ ghost use Rattle.cdcl_search.specs.Loans.{HasSameLoans, loans_rest, loans_then};
 ghost use Rattle.cdcl_search.specs.GoingOn.{log_rests, log_stops, log_then};
 
 use crate::logs::SearchLog;
-use crate::rows::{copy_of, next_ids, tell_reason};
+use crate::row_clauses::{row_clause, tell_row_reason};
+use crate::rows::{copy_of, next_ids};
 use crate::state::SearchState;
 use crate::told_rows::ToldRows;
 use conflict_learn::{Antecedents, CoreFault};
@@ -24,7 +25,6 @@ use cx_trail::Reason;
 use parity_engine::ParityEngine;
 use std::alloc::{AllocError, Global};
 use step_text::Sink;
-use xor_reason::reason_clause;
 
 /// A clause with its id in the log.
 #[derive(Drop)]
@@ -98,10 +98,13 @@ fn hinted_row<P: ParityEngine, L: Sink<Item = LogEvent>>(
     ensures rows { IfOk result (λ h. rows.new ≡ rows.old ++ h.lits ∷ []) }
     ensures stands_on { StandsOn P.ParityEngine L.Sink log.old log.new state.now engine.now rows.new result }
 {
-    let reason = reason_clause(log.alloc, engine, row, Some(literal), &state.trail)?;
+    let made = row_clause(engine, row, literal, &state.trail)?;
     let id = next_ids(log.formula, state.next, rows).clause;
-    let lits = tell_reason(log, state, engine, reason, rows)?;
-    Ok(Hinted { lits, id })
+    tell_row_reason(log, state, engine, &made, rows)?;
+    Ok(Hinted {
+        lits: made.clause,
+        id,
+    })
 }
 
 /// The clause that implied a literal of the trail. A row's is told, where the literal contradicts no assumed one.

@@ -21,7 +21,7 @@ impl Model for GhostClauses {
 
 impl GhostClauses {
     /// No clause.
-    fn new() -> GhostClauses
+    pub(crate) fn new() -> GhostClauses
         ensures { result.items ≡ [] }
     {
         GhostClauses {
@@ -30,7 +30,7 @@ impl GhostClauses {
     }
 
     /// Adds a clause at the end.
-    fn push(&mut self, _clause: &LitList)
+    pub(crate) fn push(&mut self, _clause: &LitList)
         ensures { self.new.items ≡ self.old.items ++ _clause.now ∷ [] }
     {}
 }
