@@ -1,24 +1,19 @@
 -- A row as a part of the pool.
-use Rattle.std.proofs.Common.{◌≡◌, ℕ, ◌+◌, ◌-◌, ◌*◌, ◌/◌, ◌%◌, ◌<◌, ◌≤◌, ◌++◌, min, List, length, get_or, set, take, drop, sym, ap, ◌∙◌, Some, ◌⊎◌, arith, inl, inr}
-use Rattle.std.proofs.lemmas.List.{ext_get_or, get_or-set_same, get_or-set_other, length-set, length-append, length-take, length-drop, get_or-take, get_or-drop, get_or-append-add}
+use Rattle.std.proofs.Common.{◌≡◌, ℕ, ◌+◌, ◌-◌, ◌*◌, ◌/◌, ◌%◌, ◌<◌, ◌≤◌, ◌++◌, min, List, length, get_or, set, take, drop, replicate, refl, subst, sym, ap, ◌∙◌, Some, None, ◌⊎◌, arith, inl, inr}
+use Rattle.std.proofs.lemmas.List.{ext_get_or, get_or-set_same, get_or-set_other, length-set, length-append, length-take, length-drop, get_or-take, get_or-drop, get_or-append-add, length-replicate, set-append_left}
 use Rattle.std.proofs.Math.ListN.{get_or-append}
 use Rattle.std.proofs.Math.Seq.{take-append_seam}
 use Rattle.std.specs.Simd.Lanes.{zip2}
 use borrow.Rule.Slice.PartMut.{mid_of, post_of, put_mid}
 use Rattle.std.proofs.lemmas.Bool.{cases_eq, cases_lt}
 use Rattle.cx_base.specs.Literals.{differ}
-use Rattle.gf2_rows.specs.declared.head.TableHead.{TableHead}
+use Rattle.gf2_rows.specs.declared.head.Layout.{Layout}
+use Rattle.gf2_rows.specs.declared.head.Layout.TheVariants.{Few, Short, Whole}
 use Rattle.gf2_rows.specs.Bits.{word_bit, bit_of, bits_of}
-use Rattle.gf2_rows.specs.Few.{AddsWithin, AddsPart}
-use Rattle.gf2_rows.specs.Heads.{words_from, rows_in, blank, start_at, width_at}
-use Rattle.gf2_rows.specs.Tables.{words_at}
+use Rattle.gf2_rows.specs.Few.{AddsWithin, AddsPart, padded}
+use Rattle.gf2_rows.specs.Heads.{words_from, begin_of, extent_in, IsShort}
 use Rattle.gf2_rows.proofs.Words.{bit_past_end, bit_of_sum}
-use Rattle.gf2_rows.proofs.Laying.{row_at, length-part, get_or-part}
-
--- the words of a row that is laid out whole
-pub whole_words : (pool : List ℕ) (heads : List TableHead) (row start : ℕ) → row < length heads → start_at heads row ≡ Some start
-    → words_at (rows_in pool heads) row ≡ take (width_at heads row) (drop start pool)
-whole_words pool heads row start lt starts = row_at pool heads row blank lt ∙ ap (words_from pool ((get_or heads row blank).few)) starts
+use Rattle.gf2_rows.proofs.Laying.{length-part, get_or-part, padded_at}
 
 -- a word of a part changes
 pub part-set : (pool : List ℕ) (n s p v : ℕ) → s + n ≤ length pool → p < n → take n (drop s (set pool (s + p) v)) ≡ set (take n (drop s pool)) p v
@@ -50,7 +45,7 @@ bit_of_part xs n s k lt =
     ∙ ap (word_bit (get_or xs ((64 * s + k) / 64) 0)) r
 
 -- words are added to some of a part
-module _ (pool new words : List ℕ) (n s low high : ℕ) (room : s + n ≤ length pool) (order : low ≤ high) (within : high ≤ n) (same : length words ≡ n)
+module _ (pool new words : List ℕ) (n s low high : ℕ) (room : s + n ≤ length pool) (order : low ≤ high) (within : high ≤ n) (same : n ≤ length words)
     (adds : AddsPart pool (s + low) (take (high - low) (drop low words)) new) where
   part_long : length (take (high - low) (drop low words)) ≡ high - low
   part_long = length-part words (high - low) low (omega arith)
@@ -95,6 +90,57 @@ module _ (pool new words : List ℕ) (n s low high : ℕ) (room : s + n ≤ leng
               bit_past_end (take n (drop s new)) k (let l = new_long in omega arith) ∙ sym (bit_past_end (take n (drop s pool)) k (let l = old_long in omega arith))
         ];
   }
+
+-- ---- words of a row that is laid out
+bit_padded : (n : ℕ) (xs : List ℕ) (k : ℕ) → bit_of (padded n xs) k ≡ bit_of xs k
+bit_padded n xs k = ap (λ w. word_bit w (k % 64)) (padded_at n xs (k / 64))
+
+adds_padded : (n : ℕ) (old new words : List ℕ) (low high : ℕ) → AddsWithin old words low high new → AddsWithin (padded n old) words low high (padded n new)
+adds_padded n old new words low high h = record {
+  len = let l = h.len in omega (arith, length-append old (replicate (n - length old) 0), length-append new (replicate (n - length new) 0), length-replicate {A = ℕ} (n - length old) 0, length-replicate {A = ℕ} (n - length new) 0);
+  added = λ k from to. bit_padded n new k ∙ h.added k from to ∙ ap (λ b. differ b (bit_of words k)) (sym (bit_padded n old k));
+  before = λ k to. bit_padded n new k ∙ h.before k to ∙ sym (bit_padded n old k);
+  after = λ k from. bit_padded n new k ∙ h.after k from ∙ sym (bit_padded n old k);
+}
+
+pub added_from : (pool new few words : List ℕ) (layout : Layout) (start low high : ℕ) → begin_of layout ≡ Some start → start + extent_in few layout ≤ length pool → IsShort few layout
+    → low ≤ high → high ≤ extent_in few layout → length words ≡ length few → AddsPart pool (start + low) (take (high - low) (drop low words)) new
+    → AddsWithin (words_from pool few layout) words low high (words_from new few layout)
+added_from pool new few words Few start low high begins room short order within same adds = let n : None ≡ Some start = begins in absurd (cc)
+added_from pool new few words (Short s n) start low high begins room short order within same adds =
+    let at : start ≡ s = let b : Some s ≡ Some start = begins in cc in
+    let many = short s n refl in
+    let its : AddsPart pool (s + low) (take (high - low) (drop low words)) new = subst (λ k. AddsPart pool (k + low) (take (high - low) (drop low words)) new) at adds in
+    adds_padded (length few) (take n (drop s pool)) (take n (drop s new)) words low high (part_added pool new words n s low high (omega arith) order within (omega arith) its)
+added_from pool new few words (Whole s) start low high begins room short order within same adds =
+    let at : start ≡ s = let b : Some s ≡ Some start = begins in cc in
+    let its : AddsPart pool (s + low) (take (high - low) (drop low words)) new = subst (λ k. AddsPart pool (k + low) (take (high - low) (drop low words)) new) at adds in
+    part_added pool new words (length few) s low high (omega arith) order within (omega arith) its
+
+padded-set : (n : ℕ) (xs : List ℕ) (p v : ℕ) → p < length xs → padded n (set xs p v) ≡ set (padded n xs) p v
+padded-set n xs p v lt = ap (λ k. set xs p v ++ replicate (n - k) 0) (length-set xs p v) ∙ sym (set-append_left xs (replicate (n - length xs) 0) p v lt)
+
+-- a word of such a row
+pub word_from : (pool few : List ℕ) (layout : Layout) (start p : ℕ) → begin_of layout ≡ Some start → p < extent_in few layout → get_or (words_from pool few layout) p 0 ≡ get_or pool (start + p) 0
+word_from pool few Few start p begins lt = let n : None ≡ Some start = begins in absurd (cc)
+word_from pool few (Short s n) start p begins lt =
+    let at : s ≡ start = let b : Some s ≡ Some start = begins in cc in
+    padded_at (length few) (take n (drop s pool)) p ∙ get_or-part pool n s p lt ∙ ap (λ k. get_or pool (k + p) 0) at
+word_from pool few (Whole s) start p begins lt =
+    let at : s ≡ start = let b : Some s ≡ Some start = begins in cc in
+    get_or-part pool (length few) s p lt ∙ ap (λ k. get_or pool (k + p) 0) at
+
+pub set_from : (pool few : List ℕ) (layout : Layout) (start p v : ℕ) → begin_of layout ≡ Some start → start + extent_in few layout ≤ length pool → p < extent_in few layout
+    → words_from (set pool (start + p) v) few layout ≡ set (words_from pool few layout) p v
+set_from pool few Few start p v begins room lt = let n : None ≡ Some start = begins in absurd (cc)
+set_from pool few (Short s n) start p v begins room lt =
+    let at : start ≡ s = let b : Some s ≡ Some start = begins in cc in
+    let long = length-part pool n s (omega arith) in
+    ap (λ k. padded (length few) (take n (drop s (set pool (k + p) v)))) at
+    ∙ ap (padded (length few)) (part-set pool n s p v (omega arith) lt) ∙ padded-set (length few) (take n (drop s pool)) p v (omega arith)
+set_from pool few (Whole s) start p v begins room lt =
+    let at : start ≡ s = let b : Some s ≡ Some start = begins in cc in
+    ap (λ k. take (length few) (drop s (set pool (k + p) v))) at ∙ part-set pool (length few) s p v (omega arith) lt
 
 -- ---- words are added to a part
 module _ (pool words sub : List ℕ) (start n : ℕ) (many : n ≡ length words) (room : start + n ≤ length pool) (long : length sub ≡ n)

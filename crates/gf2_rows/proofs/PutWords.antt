@@ -1,5 +1,5 @@
 -- A row in which a word is put at a place that is zero.
-use Rattle.std.proofs.Common.{◌≡◌, ℕ, zero, suc, ◌+◌, ◌*◌, ◌/◌, ◌%◌, ◌<◌, ◌^◌, Bool, false, not, ◌||◌, ◌&&◌, List, [], ◌∷◌, map, length, get_or, set, ◌++◌, replicate, refl, sym, ap, ◌∙◌, subst, cond, count_by, arith, inl, inr, Option, zero-add}
+use Rattle.std.proofs.Common.{◌≡◌, ℕ, zero, suc, ◌+◌, ◌-◌, ◌≤◌, take, drop, ◌*◌, ◌/◌, ◌%◌, ◌<◌, ◌^◌, Bool, false, not, ◌||◌, ◌&&◌, List, [], ◌∷◌, map, length, get_or, set, ◌++◌, replicate, refl, sym, ap, ◌∙◌, subst, cond, count_by, arith, inl, inr, Option, zero-add}
 use Rattle.std.specs.Prelude.{bit_and}
 use Rattle.std.specs.Int.Bits.{and_zero_l}
 use Rattle.std.specs.Int.RustNames.{count_ones}
@@ -7,16 +7,18 @@ use Rattle.std.specs.List.{range_with_len}
 use Rattle.std.specs.Simd.Lanes.{zip2}
 use Rattle.std.proofs.Math.Bool.{or-false}
 use Rattle.std.proofs.lemmas.Nat.Bits.{bit_at-zero}
-use Rattle.std.proofs.lemmas.List.{get_or-set_same, get_or-set_other, length-replicate}
+use Rattle.std.proofs.lemmas.List.{get_or-set_same, get_or-set_other, length-replicate, length-append, length-drop}
+use Rattle.std.proofs.Math.Seq.{take-append_seam, drop-append_seam}
+use Rattle.cx_base.proofs.ParityLaws.{differ_false}
 use Rattle.std.proofs.lemmas.List.Sums.{sum_by-cons, sum_by-append}
 use Rattle.std.proofs.lemmas.Bool.{cases_eq, eq-eqb, ne_eqb}
 use Rattle.cx_base.specs.Literals.{differ}
 use Rattle.cx_base.specs.Parity.{odd_sum}
 use Rattle.cx_base.proofs.Differences.{differ_assoc, differ_turned}
 use Rattle.gf2_rows.specs.Bits.{word_bit, bit_of, bits_of, is_skipped, is_outside}
-use Rattle.gf2_rows.specs.Few.{is_bit_in}
+use Rattle.gf2_rows.specs.Few.{is_bit_in, padded}
 use Rattle.gf2_rows.proofs.Entries.{zeros_at}
-use Rattle.gf2_rows.proofs.Words.{range_same, parity-append, parity-none, parity_of, parity_of-zero, products_word, products_of_rows, ones_more, ones_of_row, length-bits, bits-append, zip2-append, open_of_word}
+use Rattle.gf2_rows.proofs.Words.{range_same, parity-append, parity-none, parity_of, parity_of-zero, products_word, products_of_rows, ones_more, ones_of_row, length-bits, bits-append, zip2-append, open_of_word, products_in_two}
 
 -- ---- bits
 pub no_bit : (k : ℕ) → word_bit 0 k ≡ false
@@ -141,3 +143,24 @@ product-zeros n ys alike =
     sym (products_of_rows (replicate n 0) ys n long (sym long ∙ alike))
     ∙ ap odd_sum (range_same (λ k. bit_of (replicate n 0) k && bit_of ys k) (λ _. false) 0 (64 * n) (λ k low high. ap (λ b. b && bit_of ys k) (zeros_bit n k)))
     ∙ parity-none (range_with_len 0 (64 * n))
+
+-- ---- zeros after words
+pub ones-padded : (n : ℕ) (xs : List ℕ) → count_by (λ b. b) (bits_of (padded n xs)) ≡ count_by (λ b. b) (bits_of xs)
+ones-padded n xs =
+    let m : ℕ = n - length xs in
+    let all : ones_in (xs ++ replicate m 0) ≡ ones_in xs + ones_in (replicate m 0) =
+    ap (count_by (λ b. b)) (bits-append xs (replicate m 0)) ∙ sum_by-append (λ b. cond b 1 0) (bits_of xs) (bits_of (replicate m 0)) in
+    let none : ones_in (replicate m 0) ≡ 0 = ones-zeros m in
+    omega (arith, all, none)
+
+pub product-padded : (n : ℕ) (xs ys : List ℕ) → length xs ≤ n → length (padded n xs) ≡ length ys
+    → odd_sum (zip2 ◌&&◌ (bits_of (padded n xs)) (bits_of ys)) ≡ odd_sum (zip2 ◌&&◌ (bits_of xs) (bits_of (take (length xs) ys)))
+product-padded n xs ys room alike =
+    let m : ℕ = n - length xs in
+    let zs : List ℕ = replicate m 0 in
+    let rest : m ≡ length (drop (length xs) ys) = omega (arith, length-drop (length xs) ys, length-append xs zs, length-replicate {A = ℕ} m 0) in
+    sym (products_in_two (length xs) (padded n xs) ys alike)
+    ∙ ap (λ l. differ (odd_sum (zip2 ◌&&◌ (bits_of l) (bits_of (take (length xs) ys)))) (odd_sum (zip2 ◌&&◌ (bits_of (drop (length xs) (padded n xs))) (bits_of (drop (length xs) ys))))) (take-append_seam xs zs)
+    ∙ ap (λ l. differ (odd_sum (zip2 ◌&&◌ (bits_of xs) (bits_of (take (length xs) ys)))) (odd_sum (zip2 ◌&&◌ (bits_of l) (bits_of (drop (length xs) ys))))) (drop-append_seam xs zs)
+    ∙ ap (differ (odd_sum (zip2 ◌&&◌ (bits_of xs) (bits_of (take (length xs) ys))))) (product-zeros m (drop (length xs) ys) rest)
+    ∙ differ_false (odd_sum (zip2 ◌&&◌ (bits_of xs) (bits_of (take (length xs) ys))))

@@ -1,5 +1,5 @@
 -- Words of which few are not zero, kept with their places.
-use Rattle.std.specs.Prelude.{◌≡◌, ℕ, zero, suc, ◌+◌, ◌*◌, ◌/◌, ◌%◌, ◌<◌, ◌≤◌, ◌^◌, Bool, ◌&&◌, eqb, min, List, length, replicate, slice_index, slice_set, Option, Some, None, MatchOption}
+use Rattle.std.specs.Prelude.{◌≡◌, ℕ, zero, suc, ◌+◌, ◌-◌, ◌++◌, ◌*◌, ◌/◌, ◌%◌, ◌<◌, ◌≤◌, ◌^◌, Bool, ◌&&◌, eqb, min, List, length, replicate, slice_index, slice_set, Option, Some, None, MatchOption}
 use Rattle.std.specs.Slice.Scan.{HoldsNowhere, IsFirstPlace}
 use Rattle.cx_base.specs.Literals.{differ}
 use Rattle.gf2_rows.specs.declared.few.TheConstants.{FEW}
@@ -9,6 +9,10 @@ use Rattle.gf2_rows.specs.Bits.{word_bit, bit_of}
 unfoldable pub laid_out : ℕ → ℕ → List ℕ → List ℕ → List ℕ
 laid_out len zero places words = replicate len 0
 laid_out len (suc n) places words = slice_set (laid_out len n places words) (slice_index places n) (slice_index words n)
+
+-- these words, and zeros up to `len`
+abbrev pub padded : ℕ → List ℕ → List ℕ
+padded len words = words ++ replicate (len - length words) 0
 
 -- the places of `count` words are different ones below `len`
 pub record AreFew (len count : ℕ) (places : List ℕ) : Type 0 where

@@ -1,5 +1,5 @@
 //! The words of a row of which few are not zero.
-ghost use Rattle.std.specs.Prelude.{◌≡◌, ℕ, ◌+◌, ◌*◌, ◌/◌, ◌<◌, ◌≤◌, ◌^◌, ◌&&◌, ◌==◌, length, count_by, slice_index, slice_set, replicate, MatchOption, IsTrue, true, false};
+ghost use Rattle.std.specs.Prelude.{◌≡◌, ℕ, ◌+◌, ◌*◌, ◌/◌, ◌<◌, ◌≤◌, ◌^◌, ◌&&◌, ◌==◌, length, count_by, slice_index, slice_set, replicate, take, MatchOption, IsTrue, true, false};
 ghost use Rattle.std.specs.Int.RustNames.{bit_xor};
 ghost use Rattle.std.specs.Simd.Lanes.{zip2};
 ghost use Rattle.cx_base.specs.Parity.{odd_sum};
@@ -226,15 +226,33 @@ impl FewWords {
         sum.count_ones() % 2 == 1
     }
 
-    /// Writes all the words.
+    /// The place after the last word that is not zero, or `least` where that is more.
+    #[inline(never)]
+    pub(crate) fn end(&self, least: usize) -> usize
+        requires { least ≤ length self.now }
+        ensures least { least ≤ result }
+        ensures within { result ≤ length self.now }
+        ensures zeros { (i : ℕ) → result ≤ i → slice_index self.now i ≡ 0 }
+    {
+        let mut end = least;
+        for i in 0..self.count {
+            end = end.max(self.places[i] as usize + 1);
+        }
+        end
+    }
+
+    /// Writes the words for which there is room.
     #[inline(never)]
     pub(crate) fn copy_to(&self, into: &mut [u64])
-        requires { length into.old ≡ length self.now }
-        ensures { into.new ≡ self.now }
+        requires { length into.old ≤ length self.now }
+        ensures { into.new ≡ take (length into.old) self.now }
     {
         into.fill(0);
         for i in 0..self.count {
-            into[self.places[i] as usize] = self.words[i];
+            let place = self.places[i] as usize;
+            if place < into.len() {
+                into[place] = self.words[i];
+            }
         }
     }
 }

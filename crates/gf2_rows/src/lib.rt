@@ -13,6 +13,7 @@ pub mod plain;
 mod pool;
 mod position;
 mod scan;
+mod short;
 mod table;
 mod word_row;
 

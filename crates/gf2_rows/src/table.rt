@@ -1,5 +1,5 @@
 //! Rows of words that are kept by their few words where they can be.
-ghost use Rattle.std.specs.Prelude.{◌≡◌, ℕ, ◌*◌, ◌/◌, ◌<◌, ◌≤◌, ◌^◌, if◌then◌else◌, nat_eq, not, length, map, replicate, slice_index, slice_set, IfOk, MatchOption};
+ghost use Rattle.std.specs.Prelude.{◌≡◌, ℕ, ◌+◌, ◌*◌, ◌/◌, ◌<◌, ◌≤◌, ◌^◌, if◌then◌else◌, nat_eq, not, length, map, replicate, slice_index, slice_set, IfOk, MatchOption};
 ghost use Rattle.std.specs.Int.RustNames.{bit_xor};
 ghost use Rattle.std.specs.Simd.Lanes.{zip2};
 ghost use Rattle.cx_base.specs.Literals.{differ};
@@ -7,8 +7,8 @@ ghost use Rattle.gf2_rows.specs.Bits.{bits_of, bit_of};
 ghost use Rattle.gf2_rows.specs.Tables.{words_at, AreOtherWords, IsChangedAt, IsZeroOutside};
 ghost use Rattle.gf2_rows.specs.declared.few.TheConstants.{FEW};
 
-use crate::head::TableHead;
-use crate::pool::{add_part, lay_rows, part, total_of, whole_start};
+use crate::head::{Layout, TableHead};
+use crate::pool::{add_part, lay_rows, part, room_of, start_up_to};
 use crate::word_row::WordRow;
 use std::alloc::{AllocError, Global};
 use std::marker::Model;
@@ -16,11 +16,12 @@ use std::marker::Model;
 /// Rows of words, each of a width of its own.
 ///
 /// Contracts see the words of each row, laid out whole. A wide row takes the memory of a few words until more of its words
-/// are not zero. Then it is laid out whole, in memory that was taken when the table was made, and stays so.
+/// are not zero. Then it is laid out up to the last of these, in memory that was taken when the table was made. If it needs
+/// more later, it is laid out once more, whole, and stays so.
 #[derive(Drop)]
 pub struct WordTable {
     heads: Vec<TableHead>,
-    /// The words of the rows that are laid out whole, with capacity for those of all the others.
+    /// The words of the rows that are laid out, with capacity for all that may have to be yet.
     pool: Vec<u64>,
 }
 
@@ -42,9 +43,9 @@ impl WordTable {
         requires few { (i : ℕ) → i < length widths.now → slice_index widths.now i < 2 ^ 32 }
         ensures { IfOk result (λ t. t ≡ map (λ w. replicate w 0) widths.now) }
     {
-        let total = total_of(widths)?;
+        let room = room_of(widths)?;
         let mut heads = Vec::with_capacity(alloc, widths.len())?;
-        let mut pool = Vec::with_capacity(alloc, total)?;
+        let mut pool = Vec::with_capacity(alloc, room)?;
         lay_rows(widths, &mut heads, &mut pool);
         Ok(WordTable { heads, pool })
     }
@@ -64,9 +65,12 @@ impl WordTable {
         ensures { result ≡ words_at self.now row }
     {
         let head = &self.heads[row];
-        match head.start {
-            Some(start) => WordRow::whole(part(&self.pool, start, head.few.len())),
-            None => WordRow::few(&head.few),
+        match head.layout {
+            Layout::Whole(start) => WordRow::whole(part(&self.pool, start, head.few.len())),
+            Layout::Short(start, count) => {
+                WordRow::short(part(&self.pool, start, count), head.few.len())
+            }
+            Layout::Few => WordRow::few(&head.few),
         }
     }
 
@@ -77,9 +81,9 @@ impl WordTable {
         ensures { MatchOption result (FEW < length (words_at self.now row)) (λ words. words.now ≡ words_at self.now row) }
     {
         let head = &self.heads[row];
-        match head.start {
-            Some(start) => Some(part(&self.pool, start, head.few.len())),
-            None => None,
+        match head.layout {
+            Layout::Whole(start) => Some(part(&self.pool, start, head.few.len())),
+            _ => None,
         }
     }
 
@@ -88,13 +92,14 @@ impl WordTable {
     fn add_word(&mut self, row: usize, place: usize, word: u64)
         requires row_in { row < length self.old }
         requires place_in { place < length (words_at self.old row) }
+        requires small { place + 1 < 2 ^ 64 }
         ensures { self.new ≡ slice_set self.old row (slice_set (words_at self.old row) place (bit_xor (slice_index (words_at self.old row) place) word)) }
     {
         let head = &mut self.heads[row];
         if head.add_word(place, word) {
             return;
         }
-        let start = whole_start(&mut self.heads, &mut self.pool, row);
+        let start = start_up_to(&mut self.heads, &mut self.pool, row, place + 1);
         self.pool[start + place] ^= word;
     }
 
@@ -145,15 +150,15 @@ impl WordTable {
         ensures sum { bits_of (words_at self.new row) ≡ zip2 differ (bits_of (words_at self.old row)) (bits_of words.now) }
     {
         // Most rows are whole, and what is added to one is short enough to be part of its caller.
-        match self.heads[row].start {
-            Some(start) => add_part(&mut self.pool, start + low, &words[low..high]),
-            None => self.add_to_few(row, words, low, high),
+        match self.heads[row].layout {
+            Layout::Whole(start) => add_part(&mut self.pool, start + low, &words[low..high]),
+            _ => self.add_up_to(row, words, low, high),
         }
     }
 
-    /// Adds such words to a row that may have to be laid out whole.
+    /// Adds such words to a row that may have to be laid out.
     #[inline(never)]
-    fn add_to_few(&mut self, row: usize, words: &[u64], low: usize, high: usize)
+    fn add_up_to(&mut self, row: usize, words: &[u64], low: usize, high: usize)
         requires row_in { row < length self.old }
         requires same { length words.now ≡ length (words_at self.old row) }
         requires span { IsZeroOutside words.now low high }
@@ -165,7 +170,7 @@ impl WordTable {
         if from >= high {
             return;
         }
-        let start = whole_start(&mut self.heads, &mut self.pool, row);
+        let start = start_up_to(&mut self.heads, &mut self.pool, row, high);
         add_part(&mut self.pool, start + from, &words[from..high]);
     }
 }

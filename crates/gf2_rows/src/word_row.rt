@@ -1,17 +1,20 @@
-//! A look at a row that is kept whole or by its few words.
+//! A look at a row, however it is kept.
 ghost use Rattle.std.specs.Prelude.{◌≡◌, ℕ, ◌*◌, ◌<◌, ◌≤◌, ◌^◌, ◌&&◌, length, count_by, MatchOption, None, true, IsTrue, ◌↔◌};
 ghost use Rattle.std.specs.Simd.Lanes.{zip2};
 ghost use Rattle.std.specs.Slice.Scan.{HoldsNowhere, IsFirstPlace};
 ghost use Rattle.cx_base.specs.Parity.{odd_sum};
 ghost use Rattle.gf2_rows.specs.Bits.{bits_of, bit_of, is_outside, IsCountBelow};
+ghost use Rattle.gf2_rows.specs.Few.{padded};
 
 use crate::few::FewWords;
+use crate::short::ShortWords;
 use std::marker::Model;
 
 /// How the words are kept.
 #[derive(Drop)]
 enum Kept<'a> {
     Few(&'a FewWords),
+    Short(ShortWords<'a>),
     Whole(&'a [u64]),
 }
 
@@ -54,6 +57,17 @@ impl<'a> WordRow<'a> {
         }
     }
 
+    /// The row of these words and zeros after them, `len` in all.
+    #[inline(always)]
+    pub(crate) fn short(words: &'a [u64], len: usize) -> Self
+        requires { length words.now ≤ len }
+        ensures { result ≡ padded len words.now }
+    {
+        WordRow {
+            kept: Kept::Short(ShortWords::new(words, len)),
+        }
+    }
+
     /// How many words it has.
     #[inline(always)]
     pub fn len(&self) -> usize
@@ -61,6 +75,7 @@ impl<'a> WordRow<'a> {
     {
         match self.kept {
             Kept::Few(few) => few.len(),
+            Kept::Short(ref short) => short.len(),
             Kept::Whole(words) => words.len(),
         }
     }
@@ -81,6 +96,7 @@ impl<'a> WordRow<'a> {
     {
         match self.kept {
             Kept::Few(few) => few.bit(k),
+            Kept::Short(ref short) => short.bit(k),
             Kept::Whole(words) => crate::bit(words, k),
         }
     }
@@ -93,6 +109,7 @@ impl<'a> WordRow<'a> {
     {
         match self.kept {
             Kept::Few(few) => few.ones(),
+            Kept::Short(ref short) => short.ones(),
             Kept::Whole(words) => crate::ones(words),
         }
     }
@@ -105,6 +122,7 @@ impl<'a> WordRow<'a> {
     {
         match self.kept {
             Kept::Few(few) => few.fewer_ones(limit),
+            Kept::Short(ref short) => short.fewer_ones(limit),
             Kept::Whole(words) => crate::plain::fewer_ones(words, limit),
         }
     }
@@ -120,6 +138,7 @@ impl<'a> WordRow<'a> {
     {
         match self.kept {
             Kept::Few(few) => few.next_one(from),
+            Kept::Short(ref short) => short.next_one(from),
             Kept::Whole(words) => crate::next_one(words, from),
         }
     }
@@ -136,6 +155,7 @@ impl<'a> WordRow<'a> {
     {
         match self.kept {
             Kept::Few(few) => few.first_open(mask, None, from),
+            Kept::Short(ref short) => short.next_outside(mask, from),
             Kept::Whole(words) => crate::next_outside(words, mask, from),
         }
     }
@@ -151,6 +171,7 @@ impl<'a> WordRow<'a> {
     {
         match self.kept {
             Kept::Few(few) => few.first_open(mask, skip, 0),
+            Kept::Short(ref short) => short.first_outside(mask, skip),
             Kept::Whole(words) => crate::first_outside(words, mask, skip),
         }
     }
@@ -167,6 +188,7 @@ impl<'a> WordRow<'a> {
     {
         match self.kept {
             Kept::Few(few) => few.first_open(mask, skip, 0),
+            Kept::Short(ref short) => short.outside_near(mask, skip, near),
             Kept::Whole(words) => crate::outside_near(words, mask, skip, near),
         }
     }
@@ -179,6 +201,7 @@ impl<'a> WordRow<'a> {
     {
         match self.kept {
             Kept::Few(few) => few.parity_and(other),
+            Kept::Short(ref short) => short.parity_and(other),
             Kept::Whole(words) => crate::parity_and(words, other),
         }
     }
@@ -191,6 +214,7 @@ impl<'a> WordRow<'a> {
     {
         match self.kept {
             Kept::Few(few) => few.copy_to(into),
+            Kept::Short(ref short) => short.copy_to(into),
             Kept::Whole(words) => into.copy_from_slice(words),
         }
     }
